@@ -1,0 +1,7 @@
+pub mod Kinds
+pub mod Tokens
+pub mod Grammar
+pub mod Text
+pub mod Reading
+pub mod Laws
+pub mod Served
