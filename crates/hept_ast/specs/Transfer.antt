@@ -1,5 +1,5 @@
 -- What is known of one meaning is known of another: the form in which a proof that a pass keeps the meaning is written.
-use Rattle.std.specs.Prelude.{◌≢◌, ℕ, List, All}
+use Rattle.std.specs.Prelude.{◌≡◌, ◌≢◌, ℕ, List, All}
 use Rattle.hept_ast.specs.Meaning.{Question, Answer, Unknown, Rule, Says, Reads, Asks, Setting, rule}
 use Rattle.hept_ast.specs.Outputs.{Knows, Follows}
 
@@ -14,15 +14,15 @@ Transfer = (w other : Setting) (rows others : List (List ℕ)) (match : Question
     ((q : Question) (a : Answer) → Follows (Matched other others match) rows (rule w q) a → a ≢ Unknown → Matched other others match q a) →
     (q : Question) (a : Answer) → Knows w rows q a → Matched other others match q a
 
--- the second rule goes step by step as the first, over the questions that match
-pub data Tracks (match : Question → Question) : Rule → Rule → Type 0 where
-  unknown : {d : Rule} → Tracks match (Says Unknown) d
-  says : {a : Answer} → Tracks match (Says a) (Says a)
-  reads : {t j : ℕ} → Tracks match (Reads t j) (Reads t j)
-  asks : {q : Question} {go others : Answer → Rule} → ((a : Answer) → Tracks match (go a) (others a)) → Tracks match (Asks q go) (Asks (match q) others)
+-- the second rule goes step by step as the first, over questions that R ties to the first's
+pub data Tracks (R : Question → Question → Type 0) : Rule → Rule → Type 0 where
+  unknown : {d : Rule} → Tracks R (Says Unknown) d
+  says : {a : Answer} → Tracks R (Says a) (Says a)
+  reads : {t j : ℕ} → Tracks R (Reads t j) (Reads t j)
+  asks : {q p : Question} {go others : Answer → Rule} → R q p → ((a : Answer) → Tracks R (go a) (others a)) → Tracks R (Asks q go) (Asks p others)
 
--- the same for passes that change no step
+-- the same for a pass that changes no step
 abbrev pub TransferByRules : Type 0
 TransferByRules = (w other : Setting) (rows : List (List ℕ)) (match : Question → Question) →
-    ((q : Question) → Tracks match (rule w q) (rule other (match q))) →
+    ((q : Question) → Tracks (λ p r. r ≡ match p) (rule w q) (rule other (match q))) →
     (q : Question) (a : Answer) → Knows w rows q a → Knows other rows (match q) a

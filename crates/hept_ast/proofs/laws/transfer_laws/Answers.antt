@@ -1,3 +1,4 @@
+use Rattle.hept_ast.proofs.Reordering.{order_is_free}
 use Rattle.hept_ast.proofs.Transfer.{transfer, transfer_by_rules}
 use Rattle.hept_ast.proofs.laws.transfer_laws.Goals as goal
 
@@ -6,3 +7,6 @@ returns-clause-transfer c = transfer
 
 pub returns-clause-transfer_by_rules : goal.returns-clause-transfer_by_rules
 returns-clause-transfer_by_rules c = transfer_by_rules
+
+pub returns-clause-order_is_free : goal.returns-clause-order_is_free
+returns-clause-order_is_free c = order_is_free
