@@ -8,7 +8,7 @@ use Rattle.std.proofs.lemmas.List.Sums.{sum_by-cons}
 use Rattle.std.proofs.lemmas.List.Sorted.{All-permutation, sum_by-IsPermutation}
 use Rattle.hept_ast.specs.Texts.{Name, same, is_in, place_in, tag_value, branch_of, names}
 use Rattle.hept_ast.specs.Scopes.{Clock, Text, Written, Lowered, Scope, Top, Called, In_branch, In_body, In_state, Under, inputs_of, outputs_of, text_of, block_of, state_block, declared_in, declares, node_decls, text_block, home, calls_around, equation_of}
-use Rattle.hept_ast.specs.Meaning.{Question, Gives, Output, Variable, Last, Defined, Defines, Present, Active, Restarted, Active_state, Left_state, Answer, State_at, Rule, Reads, Setting, is_true, is_value, clock_in, clock_seen, clock_of_equation, steps_hold, before, merged, form_rule, call_of, output_rule, reply_or, right_rule, defined_or_last, branch_rule, equation_rule, block_rule, defines_rule, core_rule, defined_rule, argument_rule, own_rule, variable_rule, initial_rule, last_rule, taken, from_pending, active_state_rule, left_state_rule, active_rule, some_true, restarted_rule, rule, answer_to, strong_of, weak_of, constant_of, if_present}
+use Rattle.hept_ast.specs.Meaning.{Question, Gives, Output, Variable, Last, Defined, Defines, Present, Active, Restarted, Active_state, Left_state, Answer, State_at, Rule, Reads, Setting, is_true, is_value, clock_in, clock_seen, clock_of_equation, steps_hold, before, merged, form_rule, call_of, output_rule, outputs_rule, reply_or, right_rule, defined_or_last, branch_rule, equation_rule, block_rule, defines_rule, core_rule, defined_rule, argument_rule, own_rule, variable_rule, initial_rule, last_rule, taken, from_pending, active_state_rule, left_state_rule, active_rule, some_true, restarted_rule, rule, answer_to, strong_of, weak_of, constant_of, if_present}
 use Rattle.hept_ast.specs.Outputs.{Knows, HaveValues, OutputsFrom, Outputs}
 use Rattle.hept_ast.specs.Settings.{of_core}
 use Rattle.hept_ast.specs.Transfer.{Tracks, unknown, says, reads, asks}
@@ -277,23 +277,6 @@ module _ (w : Setting) (node : Name → Option Text) (same_node : (x : Name) →
   call_text args _ _ neither = no_call
   call_text args _ _ (both h) = a_call h
 
-  call_same : (f : Form-F Form Expr MergeBranch) → SameCall (call_of w f) (call_of v f)
-  call_same (Form-F.Call f args) = call_text args _ _ (same_node f)
-  call_same (Form-F.AsyncCall q f args) = call_text args _ _ (same_node f)
-  call_same (Form-F.Const k) = no_call
-  call_same (Form-F.Var x) = no_call
-  call_same (Form-F.Last x) = no_call
-  call_same (Form-F.Unary op a) = no_call
-  call_same (Form-F.Binary op a b) = no_call
-  call_same (Form-F.If c a b) = no_call
-  call_same (Form-F.Fby a b) = no_call
-  call_same (Form-F.Pre a) = no_call
-  call_same (Form-F.Arrow a b) = no_call
-  call_same (Form-F.When a tag x) = no_call
-  call_same (Form-F.Merge x branches) = no_call
-  call_same (Form-F.AsyncConst k) = no_call
-  call_same (Form-F.Get a) = no_call
-
   reply_tracks : (o : Option (List ℕ)) (j : ℕ) {d e : Rule} → Tracks Same d e → Tracks Same (reply_or w o j d) (reply_or v o j e)
   reply_tracks None j h = h
   reply_tracks (Some outs) j h = says
@@ -310,6 +293,13 @@ module _ (w : Setting) (node : Name → Option Text) (same_node : (x : Name) →
       (reply_or v (w.replies (calls_around s ++ place ∷ []) n) j (answer_to (Variable (slice_index_or xs j []) (Called r clock place args other) t))))
       (sym (outputs_same text other k))
       (reply_tracks (w.replies (calls_around s ++ place ∷ []) n) j (asks (variable (called h k)) (λ a. says)))))
+
+  outputs_tracks : (f : Form-F Form Expr MergeBranch) (e : Expr) (j : ℕ) (clock : Clock) (s r : Scope) (t : ℕ) → SameScope s r →
+      Tracks Same (outputs_rule w f e j clock s t) (outputs_rule v f e j clock r t)
+  outputs_tracks (Form-F.Get a) e j clock s r t h = asks (output h) (λ x. says)
+  outputs_tracks (Form-F.Call f args) e j clock s r t h = output_tracks _ _ e.place.0 j clock s r t (call_text args _ _ (same_node f)) h
+  outputs_tracks (Form-F.AsyncCall q f args) e j clock s r t h = output_tracks _ _ e.place.0 j clock s r t (call_text args _ _ (same_node f)) h
+  outputs_tracks _ e j clock s r t h = unknown
 
   -- ---- variables
 
@@ -433,7 +423,7 @@ module _ (w : Setting) (node : Name → Option Text) (same_node : (x : Name) →
   same_tracks : (q p : Question) → Same q p → Tracks Same (rule w q) (rule v p)
   same_tracks _ _ (gives {e = e} {clock = clock} {s = s} {r = r} {t = t} h) = present_tracks _ _ (present h) (form_tracks (out-Form e.form) e clock s r t h)
   same_tracks _ _ (output {e = e} {j = j} {clock = clock} {s = s} {r = r} {t = t} h) =
-      present_tracks _ _ (present h) (output_tracks _ _ e.place.0 j clock s r t (call_same (out-Form e.form)) h)
+      present_tracks _ _ (present h) (outputs_tracks (out-Form e.form) e j clock s r t h)
   same_tracks _ _ (variable {x = x} {s = s} {r = r} {t = t} h) = variable_tracks x _ _ t (home_same x s r h)
   same_tracks _ _ (last_of {x = x} {s = s} {r = r} {t = t} h) = last_tracks x _ _ t (home_same x s r h)
   same_tracks _ _ (defined {x = x} {s = s} {r = r} {t = t} h) = text_tracks (text_of s) (text_of r) x s r t (text_same s r h) h
