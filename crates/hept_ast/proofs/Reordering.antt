@@ -1,18 +1,18 @@
 -- The order of a core's equations doesn't matter: a proof by tied questions.
-use Rattle.std.proofs.Common.{◌≡◌, ◌≢◌, ◌⊎◌, inl, inr, ℕ, zero, suc, ◌+◌, ◌≤◌, ◌<◌, Bool, true, false, List, [], ◌∷◌, ◌++◌, Option, Some, None, length, map, refl, sym, ap, subst, arith, ◌∙◌, cond, zero-add}
-use Rattle.std.specs.Prelude.{if◌then◌else◌, ◌==◌, slice_get, slice_index_or, count_by, All, Contains}
+use Rattle.std.proofs.Common.{◌≡◌, ◌⊎◌, inl, inr, ℕ, zero, suc, ◌+◌, ◌≤◌, Bool, true, false, List, [], ◌∷◌, ◌++◌, Option, Some, None, length, map, refl, sym, ap, subst, arith, ◌∙◌, cond, zero-add}
+use Rattle.std.specs.Prelude.{if◌then◌else◌, ◌==◌, slice_get, slice_index_or, count_by, All}
 use Rattle.std.specs.List.{find}
 use Rattle.std.specs.Option.{option_map}
 use Rattle.std.specs.List.Sorted.{IsPermutation}
 use Rattle.std.proofs.lemmas.List.Sums.{sum_by-cons}
 use Rattle.std.proofs.lemmas.List.Sorted.{All-permutation, sum_by-IsPermutation}
 use Rattle.hept_ast.specs.Texts.{Name, same, is_in, place_in, tag_value, branch_of, names}
-use Rattle.hept_ast.specs.Scopes.{Clock, Text, Written, Lowered, Scope, Top, Called, In_branch, In_body, In_state, Under, inputs_of, outputs_of, text_of, block_of, state_block, declared_in, declares, node_decls, text_block, home, calls_around, equation_of}
-use Rattle.hept_ast.specs.Meaning.{Question, Gives, Output, Variable, Last, Defined, Defines, Present, Active, Restarted, Active_state, Left_state, Answer, State_at, Rule, Reads, Setting, is_true, is_value, clock_in, clock_seen, clock_of_equation, steps_hold, before, merged, form_rule, call_of, output_rule, outputs_rule, reply_or, right_rule, defined_or_last, branch_rule, equation_rule, block_rule, defines_rule, core_rule, defined_rule, argument_rule, own_rule, variable_rule, initial_rule, last_rule, taken, from_pending, active_state_rule, left_state_rule, active_rule, some_true, restarted_rule, rule, answer_to, strong_of, weak_of, constant_of, if_present}
+use Rattle.hept_ast.specs.Scopes.{Clock, Text, Written, Lowered, Scope, Top, Called, In_branch, In_body, In_state, Under, inputs_of, outputs_of, text_of, block_of, state_block, declared_in, node_decls, text_block, home, calls_around, equation_of}
+use Rattle.hept_ast.specs.Meaning.{Question, Gives, Output, Variable, Last, Defined, Defines, Present, Active, Restarted, Active_state, Left_state, Answer, State_at, Rule, Reads, Setting, is_true, is_value, clock_in, clock_seen, clock_of_equation, steps_hold, before, merged, form_rule, output_rule, outputs_rule, reply_or, right_rule, defined_or_last, branch_rule, equation_rule, block_rule, defines_rule, core_rule, defined_rule, argument_rule, own_rule, variable_rule, initial_rule, last_rule, taken, from_pending, active_rule, some_true, restarted_rule, rule, answer_to, strong_of, weak_of, constant_of, if_present}
 use Rattle.hept_ast.specs.Outputs.{Knows, HaveValues, OutputsFrom, Outputs}
 use Rattle.hept_ast.specs.Settings.{of_core}
 use Rattle.hept_ast.specs.Transfer.{Tracks, unknown, says, reads, asks}
-use Rattle.hept_ast.specs.Reordering.{Reordered, ReorderedNodes, none, next, Reordering, OrderIsFree}
+use Rattle.hept_ast.specs.Reordering.{Reordered, ReorderedNodes, none, next, OrderIsFree}
 use Rattle.hept_ast.specs.declared.tree.TypeDec.{TypeDec}
 use Rattle.hept_ast.specs.declared.tree.Init.{Init}
 use Rattle.hept_ast.specs.declared.tree.Decl.{Decl}
@@ -29,7 +29,6 @@ use Rattle.hept_ast.specs.declared.tree.Equation.{Equation, out-Equation}
 use Rattle.hept_ast.specs.declared.tree.Equation.TheOpen.{Equation-F}
 use Rattle.hept_ast.specs.declared.tree.CoreEquation.{CoreEquation}
 use Rattle.hept_ast.specs.declared.tree.CoreNode.{CoreNode}
-use Rattle.hept_ast.specs.declared.tree.Core.{Core}
 use Rattle.hept_ast.proofs.Transfer.{transfer_tied, if_tracks, go_on_tracks, go_on_state_tracks, present_tracks, previous_tracks, count_tracks, defined_tracks}
 
 -- ---- the equation that defines a name is the same in either order

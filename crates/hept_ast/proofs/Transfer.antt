@@ -2,7 +2,7 @@
 use Rattle.std.proofs.Common.{◌≡◌, ◌≢◌, ℕ, zero, suc, ◌+◌, Bool, true, false, List, [], ◌∷◌, refl, sym, subst}
 use Rattle.std.specs.Prelude.{if◌then◌else◌}
 use Rattle.hept_ast.specs.Texts.{Name}
-use Rattle.hept_ast.specs.Meaning.{Question, Defines, Answer, Unknown, Absent, Nil, Value, Is, State_at, Rule, Says, Reads, Asks, Setting, rule, is_true, go_on, go_on_state, previous, count_before, if_defined, if_present}
+use Rattle.hept_ast.specs.Meaning.{Question, Defines, Answer, Unknown, Absent, Nil, Value, Is, State_at, Rule, Setting, rule, is_true, go_on, go_on_state, previous, count_before, if_defined, if_present}
 use Rattle.hept_ast.specs.Outputs.{Knows, Follows, said, read, asked}
 use Rattle.hept_ast.specs.Transfer.{Matched, Transfer, Tracks, unknown, says, reads, asks, TransferByRules}
 use Rattle.hept_ast.specs.declared.tree.Equation.{Equation}
