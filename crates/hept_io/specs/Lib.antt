@@ -1,1 +1,4 @@
+pub mod LineLaws
+pub mod Lines
 pub mod Outside
+pub mod Unread
