@@ -1,12 +1,12 @@
 -- The lines of bytes, one after another.
-use Rattle.std.proofs.Common.{◌≡◌, ◌≢◌, ℕ, ◌+◌, ◌<◌, ◌≤◌, Bool, true, false, cond, eqb, List, [], ◌∷◌, ◌++◌, None, Some, Option, IfSome, ◌⊎◌, length, drop, refl, sym, ap, ◌∙◌, subst, arith, inl, inr, append_assoc, length-append}
+use Rattle.std.proofs.Common.{◌≡◌, ◌≢◌, ℕ, ◌<◌, ◌≤◌, Bool, true, false, cond, eqb, List, [], ◌∷◌, ◌++◌, None, Some, Option, IfSome, ◌⊎◌, length, drop, refl, sym, ap, ◌∙◌, subst, arith, inl, inr, append_assoc, length-append}
 use Rattle.std.proofs.lemmas.List.{append-nil}
 use Rattle.std.proofs.lemmas.List.Elements.{All-head, All-tail}
 use Rattle.std.proofs.lemmas.Bool.Decides.{eqb_tells}
 use Rattle.std.proofs.KnownBytes.{starts_with_rest}
 use Rattle.std.specs.Io.KnownBytes.{Consumes, IsAtEnd, prepend_known}
-use Rattle.hept_io.specs.Lines.{HasNoNewline, with_first, lines_of, IsFirstLine, FirstIsTooLong, LosesLine, Reading, GivesLine, GivesUp}
-use Rattle.hept_io.specs.LineLaws.{joined, JoinedIsLines, LastIsLine, LineIsFirst, NoneOfNone}
+use Rattle.hept_io.specs.Lines.{HasNoNewline, with_first, lines_of, IsFirstLine, FirstIsTooLong, LosesLine, Reading, GivesUp}
+use Rattle.hept_io.specs.LineLaws.{AllGiven, JoinedIsLines, NoneGiven, OneMoreGiven, joined}
 use Rattle.hept_io.specs.Unread.{Came, TakesLine}
 
 eqb-other : (a b : ℕ) → a ≢ b → eqb a b ≡ false
@@ -133,3 +133,25 @@ joined-lines_of (b ∷ bytes) = elim (eqb_tells b 10) [
       subst (λ (c : ℕ). Joins (c ∷ bytes) (lines_of (c ∷ bytes))) (sym is.1) (subst (Joins (10 ∷ bytes)) (sym (lines_of-newline bytes)) (joined-newline bytes (lines_of bytes) (joined-lines_of bytes)))
   | inr other ↦ subst (Joins (b ∷ bytes)) (sym (lines_of-cons b bytes other.1)) (joined-with_first b bytes (lines_of bytes) (joined-lines_of bytes))
 ]
+
+-- ---- a loop that takes one line after another
+
+pub GivesLines-none : NoneGiven
+GivesLines-none None = tt
+GivesLines-none (Some bytes) = refl
+
+pub GivesLines-more : OneMoreGiven
+GivesLines-more None before after lines line given loses = tt
+GivesLines-more (Some bytes) None after lines line given loses = absurd given
+GivesLines-more (Some bytes) (Some rest) None lines line given loses = absurd loses
+GivesLines-more (Some bytes) (Some rest) (Some left) lines line given loses =
+    given ∙ ap (λ l. lines ++ l) loses.lines ∙ sym (append_assoc lines (line ∷ []) (lines_of left))
+
+pub GivesLines-all : AllGiven
+GivesLines-all None rest lines given end = tt
+GivesLines-all (Some bytes) None lines given end = absurd given
+GivesLines-all (Some bytes) (Some rest) lines given end = given ∙ ap (λ l. lines ++ lines_of l) end ∙ ap (λ l. lines ++ l) lines_of-none ∙ append-nil lines
+
+pub IsAtEnd-to_come : (pending : List ℕ) (left : Option (List ℕ)) → pending ≡ [] → IsAtEnd left → IsAtEnd (prepend_known pending left)
+IsAtEnd-to_come pending None none end = tt
+IsAtEnd-to_come pending (Some xs) none end = ap (λ l. l ++ xs) none ∙ end

@@ -42,6 +42,12 @@ LosesLine None line new = ⊤
 LosesLine (Some bytes) line None = ⊥
 LosesLine (Some bytes) line (Some rest) = IsFirstLine bytes line rest
 
+-- these lines were given of the known bytes
+abbrev pub GivesLines : Option (List ℕ) → List (List ℕ) → Option (List ℕ) → Type 0
+GivesLines None lines new = ⊤
+GivesLines (Some bytes) lines None = ⊥
+GivesLines (Some bytes) lines (Some rest) = lines_of bytes ≡ lines ++ lines_of rest
+
 -- ---- a reader
 
 -- the bytes that a reader took from its source and didn't give yet, and whether it gives no more
@@ -63,6 +69,7 @@ pub record Ends (old : Reading) (left : Option (List ℕ)) (new : Reading) (rest
   pub spent : new.is_spent ≡ true
   pub none_pending : old.pending ≡ []
   pub none_left : IsAtEnd left
+  pub none_to_come : IsAtEnd (to_come old left)
   pub kept : Keeps left rest
 
 -- a call gave up with what was taken and not given, which holds no newline

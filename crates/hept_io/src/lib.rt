@@ -13,3 +13,6 @@ pub use laws::line_laws;
 pub use lines::{LineFault, LineReader};
 pub use memory::{MemorySink, MemorySource, MemoryStore, OpenGate};
 pub use outside::{Failed, Gate, Memory, Sink, Source, Store, StoreFault};
+
+#[cfg(test)]
+mod tests;

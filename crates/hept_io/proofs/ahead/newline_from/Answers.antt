@@ -1,4 +1,4 @@
-use Rattle.std.proofs.Common.{rules, ◌≡◌, ◌+◌, ◌-◌, ◌<◌, ◌≤◌, length, take, drop, slice_index, ℕ, List, arith, sym, ap, ◌∙◌, length-drop, MatchOption, get_or, take_all, subst}
+use Rattle.std.proofs.Common.{drop, arith, sym, ◌∙◌, length-drop, subst}
 use Rattle.std.proofs.lemmas.List.{get_or-drop, take_rest}
 use Rattle.hept_io.specs.Lines.{HasNoNewline}
 use Rattle.hept_io.proofs.LineLemmas.{HasNoNewline-parts, HasNoNewline-further}

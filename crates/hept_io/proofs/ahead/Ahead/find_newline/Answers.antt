@@ -1,4 +1,4 @@
-use Rattle.std.proofs.Common.{◌≡◌, ◌≤◌, length, take, ap, sym, ◌∙◌, subst, arith}
+use Rattle.std.proofs.Common.{◌≡◌, ◌≤◌, length, take, sym, subst, arith}
 use Rattle.std.proofs.Transfers.{starts_with_length}
 use Rattle.hept_io.specs.Lines.{HasNoNewline}
 use Rattle.hept_io.specs.Unread.{unread}

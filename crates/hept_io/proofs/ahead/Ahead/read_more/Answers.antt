@@ -1,4 +1,4 @@
-use Rattle.std.proofs.Common.{◌≡◌, ◌+◌, ◌≤◌, length, take, drop, arith}
+use Rattle.std.proofs.Common.{◌≤◌, length, arith}
 use Rattle.hept_io.proofs.LineLemmas.{Came-more, slice_range-grown}
 use Rattle.hept_io.proofs.ahead.Ahead.read_more.Goals as goal
 

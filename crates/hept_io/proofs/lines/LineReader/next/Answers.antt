@@ -1,6 +1,5 @@
-use Rattle.std.proofs.Common.{◌≡◌, ◌<◌, ◌≤◌, ◌++◌, true, false, length, Option, List, ℕ, Ok, Err, rules, refl, sym, ap, ◌∙◌, subst, arith}
-use Rattle.hept_io.specs.Lines.{HasNoNewline, Reading, GivesUp, Moves}
-use Rattle.hept_io.specs.Outside.{Rose}
+use Rattle.std.proofs.Common.{◌≡◌, ◌<◌, ◌++◌, true, false, length, Option, List, ℕ, Err, refl, ap, ◌∙◌}
+use Rattle.hept_io.specs.Lines.{HasNoNewline, Reading, Moves}
 use Rattle.hept_io.specs.Unread.{Came, unread}
 use Rattle.hept_io.specs.declared.lines.LineFault.{LineFault}
 use Rattle.hept_io.specs.declared.lines.LineFault.TheVariants.{Failed, TooLong}

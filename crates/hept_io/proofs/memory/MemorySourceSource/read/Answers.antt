@@ -1,4 +1,4 @@
-use Rattle.std.proofs.Common.{◌≡◌, ◌+◌, ℕ, List, ◌++◌, drop, take, length, sym, ap, ◌∙◌, rules, arith, take-append-drop}
+use Rattle.std.proofs.Common.{◌≡◌, ◌+◌, ℕ, List, ◌++◌, drop, take, length, sym, ap, ◌∙◌, arith, take-append-drop}
 use Rattle.std.proofs.lemmas.List.{take_at, drop-drop, take_rest, length-take-le}
 use Rattle.hept_io.proofs.memory.MemorySourceSource.read.Goals as goal
 
