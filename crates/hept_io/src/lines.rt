@@ -70,16 +70,13 @@ impl LineReader {
         ensures count { S.faults source.old ≤ S.faults source.new }
         ensures* moves { sem 𝓛 (Rests the_row self.entry (λ new. Moves self.old (S.left source.old) result new (S.left source.new))) }
     {
-        match self.ahead.next_line(source) {
-            Ok(Some(line)) => Ok(Some(self.ahead.part(line))),
-            Ok(None) => {
-                self.spent = true;
-                Ok(None)
+        self.spent = true;
+        match self.ahead.next_line(source)? {
+            Some(line) => {
+                self.spent = false;
+                Ok(Some(self.ahead.part(line)))
             }
-            Err(fault) => {
-                self.spent = true;
-                Err(fault)
-            }
+            None => Ok(None),
         }
     }
 }

@@ -1,4 +1,5 @@
-use Rattle.std.proofs.Common.{◌≡◌, ◌<◌, ◌++◌, true, false, length, Option, List, ℕ, Err, refl, ap, ◌∙◌}
+use Rattle.std.proofs.Common.{◌≡◌, ◌<◌, ◌++◌, true, length, Option, List, ℕ, Err, refl, ap}
+use Rattle.std.proofs.lemmas.Result.{err_from_is_err_and}
 use Rattle.hept_io.specs.Lines.{HasNoNewline, Reading, Moves}
 use Rattle.hept_io.specs.Unread.{Came, unread}
 use Rattle.hept_io.specs.declared.lines.LineFault.{LineFault}
@@ -17,27 +18,29 @@ gives_up old new bytes left rest TooLong spent came clean failed long =
     let all : length (old.pending ++ up.0.came) ≡ 65536 = rw up.1 (long refl) in
     (up.0, all, FirstIsTooLong-came old.pending left rest up.0.came up.0.consumed up.0.clean all)
 
-pub returns-in-Ok-Some : goal.returns-in-Ok-Some
-returns-in-Ok-Some g c =
+pub returns-in-Some : goal.returns-in-Some
+returns-in-Some g c =
     let was : unread c.self.inside.ahead ≡ c.args.self.now.pending = ap (λ (r : Reading). r.pending) c.self.view_is in
-    let goes_on : c.self.inside.spent ≡ false = ap (λ (r : Reading). r.is_spent) c.self.view_is ∙ c.requires in
-    let clauses = rw c.in-Ok-Some.field-0-is at c.in-Ok-Some.ensures in
+    let clauses = rw c.in-Some.is at c.in_ok-line.ensures in
     let shown = c.part.ensures in
     let line = rw (← shown) at clauses.line in
     let takes = rw was at line.1 in (
-      (refl, λ _. tt, record { goes_on = goes_on; loses = LosesLine-taken _ _ _ _ _ line.0.0 takes }),
+      (refl, λ _. tt, record { goes_on = refl; loses = LosesLine-taken _ _ _ _ _ line.0.0 takes }),
       record { line = line.0; failed = tt; count = c.next_line.ensures.count; moves = tt },
     )
 
-pub returns-in-Err : goal.returns-in-Err
-returns-in-Err g c =
+pub returns-in_err-line : goal.returns-in_err-line
+returns-in_err-line g c =
     let was : unread c.self.inside.ahead ≡ c.args.self.now.pending = ap (λ (r : Reading). r.pending) c.self.view_is in
-    let clauses = c.in-Err.ensures in
-    let came = rw was at clauses.refused.0 in (
+    let clauses = c.in_err-line.ensures in
+    let came = rw was at clauses.refused.0 in
+    let fault = c.in_err-line.field-0.0 in
+    let is = err_from_is_err_and c.from_residual.result c.from_residual.ensures.1 in
+    rw (is.1, is.2) (
       (
         refl,
         λ _. tt,
-        gives_up c.args.self.now (record { pending = unread c.next_line.new.self; is_spent = true }) (unread c.next_line.new.self) _ _ c.in-Err.fault refl came clauses.refused.1 (λ is. (clauses.failed (ap Err is)).0) (λ is. clauses.too_long (ap Err is)),
+        gives_up c.args.self.now (record { pending = unread c.next_line.new.self; is_spent = true }) (unread c.next_line.new.self) _ _ fault refl came clauses.refused.1 (λ is. (clauses.failed (ap Err is)).0) (λ is. clauses.too_long (ap Err is)),
       ),
       record { line = tt; failed = λ is. (clauses.failed (ap Err is)).1; count = c.next_line.ensures.count; moves = tt },
     )
