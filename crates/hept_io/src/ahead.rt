@@ -29,8 +29,8 @@ pub(crate) struct Line {
 }
 
 impl Ahead {
-    ghost use Rattle.std.specs.Prelude.{◌≡◌, ◌+◌, ◌-◌, ◌<◌, ◌≤◌, [], length, take, drop, slice_index, slice_range, MatchOption, MatchResult, IfOk, IfErr, OnErr, OnOk, IsTrue, ◌↔◌, vec_len, true, false, Ok, Err, IfSome, None, ◌++◌, ◌∷◌};
-    ghost use Rattle.std.specs.Io.KnownBytes.{Consumes, IsAtEnd, Keeps};
+    ghost use Rattle.std.specs.Prelude.{◌≡◌, ◌+◌, ◌-◌, ◌<◌, ◌≤◌, ◌↔◌, [], ◌∷◌, ◌++◌, length, take, slice_index, slice_range, true, false, None, IfSome, Ok, Err, IfOk, OnErr, OnOk, IsTrue};
+    ghost use Rattle.std.specs.Io.KnownBytes.{IsAtEnd, Keeps};
     ghost use Rattle.hept_io.specs.Lines.{HasNoNewline, IsLine};
     ghost use Rattle.hept_io.specs.Outside.{Rose};
     ghost use Rattle.hept_io.specs.Unread.{Came, TakesLine, unread};
@@ -80,7 +80,8 @@ impl Ahead {
     /// Reads once behind the bytes, and answers how many came.
     fn read_more<S: Source>(&mut self, source: &mut S) -> Result<usize, Failed>
         requires { self.old.end < 65536 }
-        ensures came { IfOk result (λ n. Came (unread self.old) (unread self.new) (S.left source.old) (S.left source.new)) }
+        ensures came { IfOk result (λ n.
+            Came (unread self.old) (unread self.new) (S.left source.old) (S.left source.new)) }
         ensures more { IfOk result (λ n. self.new.end - self.new.start ≡ self.old.end - self.old.start + n) }
         ensures end { IfOk result (λ n. n ≡ 0 → IsAtEnd (S.left source.new)) }
         ensures none_came { OnErr result (unread self.new ≡ unread self.old) }
@@ -191,7 +192,8 @@ impl Ahead {
             (slice_range self.new.buf.items line.from line.to) (unread self.new) (S.left source.new))) }
         ensures end { result ≡ Ok None → Came (unread self.old) [] (S.left source.old) (S.left source.new)
             × IsAtEnd (S.left source.new) }
-        ensures refused { OnErr result (Came (unread self.old) (unread self.new) (S.left source.old) (S.left source.new)
+        ensures refused { OnErr result (
+            Came (unread self.old) (unread self.new) (S.left source.old) (S.left source.new)
             × HasNoNewline (unread self.new)) }
         ensures failed { result ≡ Err LineFault.Failed
             → (length (unread self.new) < 65536) × Rose (S.faults source.old) (S.faults source.new) }
@@ -212,7 +214,8 @@ fn read_at<S: Source>(source: &mut S, buf: &mut Vec<u8>, at: usize) -> Result<us
     ensures len { vec_len buf.new ≡ vec_len buf.old }
     ensures front { take at buf.new.items ≡ take at buf.old.items }
     ensures fits { IfOk result (λ n. at + n ≤ vec_len buf.new) }
-    ensures taken { IfOk result (λ n. Consumes (S.left source.old) (S.left source.new) (take n (drop at buf.new.items))) }
+    ensures taken { IfOk result (λ n.
+        Consumes (S.left source.old) (S.left source.new) (take n (drop at buf.new.items))) }
     ensures end { IfOk result (λ n. n ≡ 0 → IsAtEnd (S.left source.new)) }
     ensures none_taken { OnErr result (Keeps (S.left source.old) (S.left source.new)) }
     ensures cause { OnErr result (Rose (S.faults source.old) (S.faults source.new)) }
@@ -225,7 +228,8 @@ fn read_behind<S: Source>(source: &mut S, buf: &mut [u8], at: usize) -> Result<u
     requires { at < length buf.old }
     ensures front { take at buf.new ≡ take at buf.old }
     ensures fits { IfOk result (λ n. at + n ≤ length buf.new) }
-    ensures taken { IfOk result (λ n. Consumes (S.left source.old) (S.left source.new) (take n (drop at buf.new))) }
+    ensures taken { IfOk result (λ n.
+        Consumes (S.left source.old) (S.left source.new) (take n (drop at buf.new))) }
     ensures end { IfOk result (λ n. n ≡ 0 → IsAtEnd (S.left source.new)) }
     ensures none_taken { OnErr result (Keeps (S.left source.old) (S.left source.new)) }
     ensures cause { OnErr result (Rose (S.faults source.old) (S.faults source.new)) }

@@ -1,8 +1,4 @@
 //! The lines of a source.
-ghost use Rattle.std.specs.Prelude.{◌≡◌, ◌≤◌, [], false, IfOk, IfErr, IfSome};
-ghost use Rattle.hept_io.specs.Lines.{IsLine, Moves};
-ghost use Rattle.hept_io.specs.Outside.{Rose};
-
 use crate::ahead::Ahead;
 use crate::outside::{Memory, Source};
 use std::alloc::Global;
@@ -66,9 +62,11 @@ impl LineReader {
     pub fn next<S: Source>(&mut self, source: &mut S) -> Result<Option<&[u8]>, LineFault>
         requires { self.old.is_spent ≡ false }
         ensures line { IfOk result (λ o. IfSome o (λ line. IsLine line.now)) }
-        ensures failed { IfErr result (λ e. e ≡ LineFault.Failed → Rose (S.faults source.old) (S.faults source.new)) }
+        ensures failed { IfErr result (λ e. e ≡ LineFault.Failed
+            → Rose (S.faults source.old) (S.faults source.new)) }
         ensures count { S.faults source.old ≤ S.faults source.new }
-        ensures* moves { sem 𝓛 (Rests the_row self.entry (λ new. Moves self.old (S.left source.old) result new (S.left source.new))) }
+        ensures* moves { sem 𝓛 (Rests the_row self.entry
+            (λ new. Moves self.old (S.left source.old) result new (S.left source.new))) }
     {
         self.spent = true;
         match self.ahead.next_line(source)? {

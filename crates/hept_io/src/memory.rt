@@ -1,5 +1,5 @@
 //! Sources, sinks and stores in memory, for tests.
-ghost use Rattle.std.specs.Prelude.{◌≡◌, ◌+◌, ◌-◌, ◌^◌, ◌<◌, ◌≤◌, ◌↔◌, [], Some, IfOk, IsErr, IsTrue, OnOk, OnErr, Contains, drop, length, min, take, vec_len, vec_capacity, true, false, Err, IfSome, ◌⊎◌};
+ghost use Rattle.std.specs.Prelude.{◌≡◌, ◌+◌, ◌-◌, ◌<◌, ◌≤◌, ◌↔◌, [], Some, IfOk, IsErr, IsTrue, OnOk, OnErr, Contains, drop, length, min, take, vec_len, vec_capacity, true, false, ◌⊎◌};
 ghost use Rattle.std.specs.Io.KnownBytes.{Appends, Consumes, IsAtEnd, Keeps};
 ghost use Rattle.hept_io.specs.Outside.{Rose, files_of, one_more};
 
@@ -96,12 +96,16 @@ impl Source for MemorySource {
 
     fn read(&mut self, buf: &mut [u8]) -> Result<usize, Failed>
         ensures bound { IfOk result (λ n. n ≤ length buf.new) }
-        ensures taken { IfOk result (λ n. Consumes (Some (drop self.old.at self.old.bytes.items)) (Some (drop self.new.at self.new.bytes.items)) (take n buf.new)) }
-        ensures end { IfOk result (λ n. n ≡ 0 → 0 < length buf.new → IsAtEnd (Some (drop self.new.at self.new.bytes.items))) }
-        ensures none_taken { OnErr result (Keeps (Some (drop self.old.at self.old.bytes.items)) (Some (drop self.new.at self.new.bytes.items))) }
+        ensures taken { IfOk result (λ n. Consumes (Some (drop self.old.at self.old.bytes.items))
+            (Some (drop self.new.at self.new.bytes.items)) (take n buf.new)) }
+        ensures end { IfOk result (λ n. n ≡ 0 → 0 < length buf.new
+            → IsAtEnd (Some (drop self.new.at self.new.bytes.items))) }
+        ensures none_taken { OnErr result (Keeps (Some (drop self.old.at self.old.bytes.items))
+            (Some (drop self.new.at self.new.bytes.items))) }
         ensures cause { OnErr result (Rose self.old.calls.faults self.new.calls.faults) }
         ensures count { self.old.calls.faults ≤ self.new.calls.faults }
-        ensures amount { IfOk result (λ n. n ≡ min self.old.chunk (min (vec_len self.old.bytes - self.old.at) (length buf.old))) }
+        ensures amount { IfOk result (λ n.
+            n ≡ min self.old.chunk (min (vec_len self.old.bytes - self.old.at) (length buf.old))) }
         ensures listed { IsErr result ↔ Contains self.old.calls.fails.items (one_more self.old.calls.made) }
     {
         if self.calls.next_fails() {
@@ -173,13 +177,15 @@ impl Sink for MemorySink {
     fn write(&mut self, piece: &[u8]) -> Result<usize, Failed>
         ensures bound { IfOk result (λ n. n ≤ length piece.now) }
         ensures some { IfOk result (λ n. 0 < length piece.now → 0 < n) }
-        ensures appended { IfOk result (λ n. Appends (Some self.old.bytes.items) (Some self.new.bytes.items) (take n piece.now)) }
+        ensures appended { IfOk result (λ n.
+            Appends (Some self.old.bytes.items) (Some self.new.bytes.items) (take n piece.now)) }
         ensures none_appended { OnErr result (Keeps (Some self.old.bytes.items) (Some self.new.bytes.items)) }
         ensures cause { OnErr result (Rose self.old.calls.faults self.new.calls.faults) }
         ensures count { self.old.calls.faults ≤ self.new.calls.faults }
         ensures amount { IfOk result (λ n. n ≡ min self.old.chunk (length piece.now)) }
         ensures listed_or_full { OnErr result (Contains self.old.calls.fails.items (one_more self.old.calls.made)
-            ⊎ (vec_capacity self.old.bytes < vec_len self.old.bytes + min self.old.chunk (length piece.now))) }
+            ⊎ (vec_capacity self.old.bytes
+            < vec_len self.old.bytes + min self.old.chunk (length piece.now))) }
     {
         if self.calls.next_fails() {
             return Err(Failed);

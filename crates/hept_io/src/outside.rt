@@ -74,7 +74,8 @@ pub trait Store {
         ensures failed { result ≡ Err StoreFault.Failed → Rose (faults self.old) (faults self.new) }
         ensures too_large { result ≡ Err StoreFault.TooLarge → IfSome (files self.old) (λ map. IsLarge map name.now) }
         ensures missing { result ≡ Err StoreFault.Missing → HasNone (files self.old) name.now }
-        ensures missing_is_no_fault { result ≡ Err StoreFault.Missing → faults self.new ≡ faults self.old }
+        ensures missing_is_no_fault { result ≡ Err StoreFault.Missing
+            → faults self.new ≡ faults self.old }
         ensures kept { files self.new ≡ files self.old }
         ensures count { faults self.old ≤ faults self.new };
 }
