@@ -1,0 +1,148 @@
+-- That a term stands for an expression, form by form.
+use Rattle.std.proofs.Common.{◌≡◌, ◌⊎◌, inl, inr, ℕ, zero, suc, ◌+◌, ◌<◌, ℤ, Bool, true, List, [], ◌∷◌, ◌++◌, length, Some, None, refl, sym, ap, subst, arith, ◌∙◌}
+use Rattle.std.specs.Prelude.{slice_get}
+use Rattle.hept_ast.specs.Values.{bits_of}
+use Rattle.hept_ast.specs.Texts.{Name, const_value, is_in, place_in}
+use Rattle.hept_ast.specs.declared.tree.Expr.{Expr}
+use Rattle.hept_ast.specs.declared.tree.Const.{Const}
+use Rattle.hept_ast.specs.declared.tree.Const.TheVariants as const
+use Rattle.hept_ast.specs.declared.tree.BinaryOp.{BinaryOp}
+use Rattle.hept_ast.specs.declared.tree.BinaryOp.TheVariants as binary
+use Rattle.hept_ast.specs.declared.tree.Form as form
+use Rattle.hept_ast.specs.declared.tree.Form.{Form, out-Form}
+use Rattle.hept_ast.specs.declared.tree.Form.TheOpen.{Form-F}
+use Rattle.hept_ast.proofs.Unfolded.{tree}
+use Rattle.ept_reader.specs.Served.{ServedExpr, number, variable, sum, fby}
+use Rattle.hepasync_top.specs.declared.equations.Term.{Term}
+use Rattle.hepasync_top.specs.declared.equations.Term.TheVariants.{Number, Variable, Add', Sub', Fby'}
+use Rattle.hepasync_top.specs.Terms.{Compiled, number_term, variable_term, sum_term, difference_term, fby_term, IsNumber, IsSumOrDifference, StandsFor, Extends}
+
+-- ---- the forms of what was read
+
+pub const_form : (e : Expr) (k : Const) (z : ℤ) → e.form ≡ form.Const k → k ≡ const.Number z → out-Form e.form ≡ Form-F.Const (const.Number z)
+unfolding tree out-Form denote.Hole.Carrier.out denote.Hole.Carrier.shown
+const_form e k z h g = ap out-Form h ∙ ap (λ (x : Const). Form-F.Const x) g
+
+pub var_form : (e : Expr) (x : Name) → e.form ≡ form.Var x → out-Form e.form ≡ Form-F.Var x
+unfolding tree out-Form denote.Hole.Carrier.out denote.Hole.Carrier.shown
+var_form e x h = ap out-Form h
+
+pub binary_form : (e : Expr) (o op : BinaryOp) (a b : Expr) → e.form ≡ form.Binary o a b → o ≡ op → out-Form e.form ≡ Form-F.Binary op a b
+unfolding tree out-Form denote.Hole.Carrier.out denote.Hole.Carrier.shown
+binary_form e o op a b h g = ap out-Form h ∙ ap (λ (x : BinaryOp). Form-F.Binary x a b) g
+
+pub fby_form : (e : Expr) (a b : Expr) → e.form ≡ form.Fby a b → out-Form e.form ≡ Form-F.Fby a b
+unfolding tree out-Form denote.Hole.Carrier.out denote.Hole.Carrier.shown
+fby_form e a b h = ap out-Form h
+
+-- ---- the parts of what is served
+
+served_variable : (d known : List Name) (e : Expr) (x : Name) → ServedExpr d known e → out-Form e.form ≡ Form-F.Var x → is_in x known ≡ true
+served_variable d known e x (number z h) g = absurd (cc)
+served_variable d known e x (variable y h k) g = let eq : y ≡ x = cc in subst (λ (n : Name). is_in n known ≡ true) eq k
+served_variable d known e x (sum op a b h k u v) g = absurd (cc)
+served_variable d known e x (fby a b h u v) g = absurd (cc)
+
+served_sides : (d known : List Name) (e : Expr) (op : BinaryOp) (a b : Expr) → ServedExpr d known e → out-Form e.form ≡ Form-F.Binary op a b →
+    ServedExpr d known a × ServedExpr d known b
+served_sides d known e op a b (number z h) g = absurd (cc)
+served_sides d known e op a b (variable y h k) g = absurd (cc)
+served_sides d known e op a b (sum o m n h k u v) g =
+    let f : m ≡ a = cc in
+    let g : n ≡ b = cc in
+    (subst (λ (x : Expr). ServedExpr d known x) f u, subst (λ (x : Expr). ServedExpr d known x) g v)
+served_sides d known e op a b (fby m n h u v) g = absurd (cc)
+
+pub served_number : (d known : List Name) (e : Expr) (k : Const) → ServedExpr d known e → e.form ≡ form.Const k → IsNumber k
+unfolding tree out-Form denote.Hole.Carrier.out denote.Hole.Carrier.shown
+served_number d known e k (number z h) g =
+    let f : out-Form e.form ≡ Form-F.Const k = ap out-Form g in
+    (z, cc)
+served_number d known e k (variable y h u) g = let f : out-Form e.form ≡ Form-F.Const k = ap out-Form g in absurd (cc)
+served_number d known e k (sum o m n h w u v) g = let f : out-Form e.form ≡ Form-F.Const k = ap out-Form g in absurd (cc)
+served_number d known e k (fby m n h u v) g = let f : out-Form e.form ≡ Form-F.Const k = ap out-Form g in absurd (cc)
+
+pub served_operation : (d known : List Name) (e a b : Expr) (op : BinaryOp) → ServedExpr d known e → e.form ≡ form.Binary op a b → IsSumOrDifference op
+served_operation d known e a b op (number z h) g = let f = binary_form e op op a b g refl in absurd (cc)
+served_operation d known e a b op (variable y h u) g = let f = binary_form e op op a b g refl in absurd (cc)
+served_operation d known e a b op (sum o m n h w u v) g =
+    let f = binary_form e op op a b g refl in
+    let k : o ≡ op = cc in
+    subst (λ (x : BinaryOp). IsSumOrDifference x) k w
+served_operation d known e a b op (fby m n h u v) g = let f = binary_form e op op a b g refl in absurd (cc)
+
+served_operands : (d known : List Name) (e a b : Expr) → ServedExpr d known e → out-Form e.form ≡ Form-F.Fby a b →
+    ServedExpr d known a × ServedExpr d d b
+served_operands d known e a b (number z h) g = absurd (cc)
+served_operands d known e a b (variable y h k) g = absurd (cc)
+served_operands d known e a b (sum o m n h k u v) g = absurd (cc)
+served_operands d known e a b (fby m n h u v) g =
+    let f : m ≡ a = cc in
+    let g : n ≡ b = cc in
+    (subst (λ (x : Expr). ServedExpr d known x) f u, subst (λ (x : Expr). ServedExpr d d x) g v)
+
+-- ---- more right operands
+
+kept_at : {X : Type 0} (xs ys : List X) (k : ℕ) (x : X) → slice_get xs k ≡ Some x → slice_get (xs ++ ys) k ≡ Some x
+kept_at [] ys k x h = absurd (cc)
+kept_at (y ∷ xs) ys zero x h = h
+kept_at (y ∷ xs) ys (suc k) x h = kept_at xs ys k x h
+
+last_at : {X : Type 0} (xs : List X) (x : X) → slice_get (xs ++ x ∷ []) (length xs) ≡ Some x
+last_at [] x = refl
+last_at (y ∷ xs) x = last_at xs x
+
+grown : (d : List Name) (next more : List Term) {known : List Name} {m : Term} {e : Expr} → Compiled d next known m e → Compiled d (next ++ more) known m e
+grown d next more (number_term z n h k) = number_term z n h k
+grown d next more (variable_term x i h k u v) = variable_term x i h k u v
+grown d next more (sum_term a b h u v) = sum_term a b h (grown d next more u) (grown d next more v)
+grown d next more (difference_term a b h u v) = difference_term a b h (grown d next more u) (grown d next more v)
+grown d next more (fby_term cell n a b h u k v) =
+    fby_term cell n a b h (grown d next more u) (kept_at next more cell n k) (grown d next more v)
+
+pub extended : (d : List Name) (next all : List Term) (known : List Name) (m : Term) (e : Expr) → Extends next all → Compiled d next known m e → Compiled d all known m e
+extended d next all known m e x h = subst (λ (ts : List Term). Compiled d ts known m e) (sym x.1) (grown d next x.0 h)
+
+-- ---- the forms of terms
+
+pub number_stands : (d : List Name) (next : List Term) (e : Expr) (k : Const) (n : ℕ) → e.form ≡ form.Const k → IsNumber k → n ≡ const_value [] k → StandsFor d next (Number n) e
+number_stands d next e k n h g f = λ known served. number_term g.0 n (const_form e k g.0 h g.1) (f ∙ ap (const_value []) g.1)
+
+pub variable_stands : (d : List Name) (next : List Term) (e : Expr) (x : Name) (i : ℕ) → e.form ≡ form.Var x → i ≡ place_in x d → ServedExpr d d e → StandsFor d next (Variable i) e
+variable_stands d next e x i h g s = λ known served.
+    variable_term x i (var_form e x h) g (served_variable d d e x s (var_form e x h)) (served_variable d known e x served (var_form e x h))
+
+sum_stands : (d : List Name) (next all : List Term) (e a b : Expr) (p q : _) (m n : Term) → out-Form e.form ≡ Form-F.Binary binary.Add a b →
+    Extends next all → StandsFor d next m a → StandsFor d all n b → StandsFor d all (Add' p m q n) e
+sum_stands d next all e a b p q m n f x u v = λ known served.
+    let s : ServedExpr d known a × ServedExpr d known b = served_sides d known e binary.Add a b served f in
+    sum_term a b f (extended d next all known m a x (u known s.0)) (v known s.1)
+
+difference_stands : (d : List Name) (next all : List Term) (e a b : Expr) (p q : _) (m n : Term) → out-Form e.form ≡ Form-F.Binary binary.Sub a b →
+    Extends next all → StandsFor d next m a → StandsFor d all n b → StandsFor d all (Sub' p m q n) e
+difference_stands d next all e a b p q m n f x u v = λ known served.
+    let s : ServedExpr d known a × ServedExpr d known b = served_sides d known e binary.Sub a b served f in
+    difference_term a b f (extended d next all known m a x (u known s.0)) (v known s.1)
+
+pub binary_stands : (d : List Name) (next all : List Term) (e a b : Expr) (op : BinaryOp) (p q : _) (m n r : Term) → e.form ≡ form.Binary op a b → IsSumOrDifference op →
+    Extends next all → StandsFor d next m a → StandsFor d all n b → (op ≡ binary.Add → r ≡ Add' p m q n) → (op ≡ binary.Sub → r ≡ Sub' p m q n) → StandsFor d all r e
+binary_stands d next all e a b op p q m n r h (inl g) x u v k l =
+    subst (λ (t : Term). StandsFor d all t e) (sym (k g)) (sum_stands d next all e a b p q m n (binary_form e op binary.Add a b h g) x u v)
+binary_stands d next all e a b op p q m n r h (inr g) x u v k l =
+    subst (λ (t : Term). StandsFor d all t e) (sym (l g)) (difference_stands d next all e a b p q m n (binary_form e op binary.Sub a b h g) x u v)
+
+pub fby_stands : (d : List Name) (next all with_cell : List Term) (e a b : Expr) (p : _) (m n : Term) (cell : ℕ) → e.form ≡ form.Fby a b →
+    Extends next all → StandsFor d next m a → StandsFor d all n b → with_cell ≡ all ++ n ∷ [] → cell ≡ length all →
+    StandsFor d with_cell (Fby' cell p m) e
+fby_stands d next all with_cell e a b p m n cell h x u v w l = λ known served.
+    let f : out-Form e.form ≡ Form-F.Fby a b = fby_form e a b h in
+    let s : ServedExpr d known a × ServedExpr d d b = served_operands d known e a b served f in
+    let more : Extends all with_cell = (n ∷ [], w) in
+    let here : slice_get with_cell cell ≡ Some n = ap (λ (ts : List Term). slice_get ts cell) w ∙ ap (λ i. slice_get (all ++ n ∷ []) i) l ∙ last_at all n in
+    fby_term cell n a b f (extended d all with_cell known m a more (extended d next all known m a x (u known s.0))) here
+    (extended d all with_cell d n b more (v d s.1))
+
+-- the same term and the same expression
+pub same_stands : (d : List Name) (next : List Term) (m n : Term) (a b : Expr) → StandsFor d next m a → n ≡ m → a ≡ b → StandsFor d next n b
+same_stands d next m n a b h e f =
+    subst (λ (t : Term). StandsFor d next t b) (sym e) (subst (λ (x : Expr). StandsFor d next m x) f h)

@@ -1,0 +1,5 @@
+//! A program run on a trace.
+#![tactic(auto)]
+
+mod equations;
+mod stepper;
