@@ -1,6 +1,7 @@
 -- That a term stands for an expression, form by form.
-use Rattle.std.proofs.Common.{◌≡◌, ◌⊎◌, inl, inr, ℕ, zero, suc, ◌+◌, ◌<◌, ℤ, Bool, true, List, [], ◌∷◌, ◌++◌, length, Some, None, refl, sym, ap, subst, arith, ◌∙◌}
-use Rattle.std.specs.Prelude.{slice_get}
+use Rattle.std.proofs.Common.{◌≡◌, ◌⊎◌, inl, inr, ℕ, zero, suc, ◌+◌, ◌<◌, ℤ, Bool, true, List, [], ◌∷◌, ◌++◌, length, get_or, Some, None, refl, sym, ap, subst, arith, ◌∙◌}
+use Rattle.std.specs.Prelude.{slice_get, All}
+use Rattle.std.proofs.lemmas.Option.{slice_get_within, slice_get-get_or}
 use Rattle.hept_ast.specs.Values.{bits_of}
 use Rattle.hept_ast.specs.Texts.{Name, const_value, is_in, place_in}
 use Rattle.hept_ast.specs.declared.tree.Expr.{Expr}
@@ -15,7 +16,8 @@ use Rattle.hept_ast.proofs.Unfolded.{tree}
 use Rattle.ept_reader.specs.Served.{ServedExpr, number, variable, sum, fby}
 use Rattle.hepasync_top.specs.declared.equations.Term.{Term}
 use Rattle.hepasync_top.specs.declared.equations.Term.TheVariants.{Number, Variable, Add', Sub', Fby'}
-use Rattle.hepasync_top.specs.Terms.{Compiled, number_term, variable_term, sum_term, difference_term, fby_term, IsNumber, IsSumOrDifference, StandsFor, Extends}
+use Rattle.hepasync_top.specs.Terms.{Compiled, number_term, variable_term, sum_term, difference_term, fby_term, IsNumber, IsSumOrDifference, StandsFor, Extends, EachStands, IsInside}
+use Rattle.hepasync_top.proofs.Names.{named_at}
 
 -- ---- the forms of what was read
 
@@ -146,3 +148,47 @@ fby_stands d next all with_cell e a b p m n cell h x u v w l = λ known served.
 pub same_stands : (d : List Name) (next : List Term) (m n : Term) (a b : Expr) → StandsFor d next m a → n ≡ m → a ≡ b → StandsFor d next n b
 same_stands d next m n a b h e f =
     subst (λ (t : Term). StandsFor d next t b) (sym e) (subst (λ (x : Expr). StandsFor d next m x) f h)
+
+-- ---- all right operands
+
+at_or_last : (xs : List Term) (n : Term) (k : ℕ) (m : Term) → slice_get (xs ++ n ∷ []) k ≡ Some m → (slice_get xs k ≡ Some m) ⊎ (n ≡ m)
+at_or_last [] n zero m h = inr cc
+at_or_last [] n (suc k) m h = absurd (cc)
+at_or_last (x ∷ xs) n zero m h = inl h
+at_or_last (x ∷ xs) n (suc k) m h = at_or_last xs n k m h
+
+pub each_more : (d : List Name) (next all : List Term) → Extends next all → ((k : ℕ) (m : Term) → slice_get next k ≡ Some m → (b : Expr) × Compiled d next d m b) →
+    (k : ℕ) (m : Term) → slice_get next k ≡ Some m → (b : Expr) × Compiled d all d m b
+each_more d next all x each k m at = let (b, h) = each k m at in (b, extended d next all d m b x h)
+
+pub pushed_stands : (d : List Name) (all with_cell : List Term) (e a b : Expr) (n : Term) → e.form ≡ form.Fby a b → ServedExpr d d e → StandsFor d all n b →
+    with_cell ≡ all ++ n ∷ [] → EachStands d all → EachStands d with_cell
+pushed_stands d all with_cell e a b n h s stands w each = λ k m at. by_place k m (at_or_last all n k m (ap (λ (ts : List Term). slice_get ts k) (sym w) ∙ at))
+  where
+    more : Extends all with_cell
+    more = (n ∷ [], w)
+    compiled : Compiled d all d n b
+    compiled = stands d (served_operands d d e a b s (fby_form e a b h)).1
+    by_place : (k : ℕ) (m : Term) → (slice_get all k ≡ Some m) ⊎ (n ≡ m) → (b : Expr) × Compiled d with_cell d m b
+    by_place k m (inl at) = each_more d all with_cell more each k m at
+    by_place k m (inr same) = (b, subst (λ (x : Term). Compiled d with_cell d x b) same (extended d all with_cell d n b more compiled))
+
+-- ---- positions
+
+pub within_names : (x : Name) (xs : List Name) → is_in x xs ≡ true → place_in x xs < length xs
+within_names x xs h = slice_get_within xs (place_in x xs) x (named_at x xs h)
+
+-- what stands for an expression has its positions within the lists
+pub inside : (d : List Name) (next : List Term) (cells variables : ℕ) → cells ≡ length next → variables ≡ length d → {known : List Name} {m : Term} {e : Expr} → Compiled d next known m e → IsInside cells variables m
+inside d next cells variables c v (number_term z n h k) = tt
+inside d next cells variables c v (variable_term x i h k u s) = let w : place_in x d < length d = within_names x d u in omega arith
+inside d next cells variables c v (sum_term a b h u s) = (inside d next cells variables c v u, inside d next cells variables c v s)
+inside d next cells variables c v (difference_term a b h u s) = (inside d next cells variables c v u, inside d next cells variables c v s)
+inside d next cells variables c v (fby_term cell n a b h u k s) =
+    let w : cell < length next = slice_get_within next cell n k in
+    (omega arith, inside d next cells variables c v u)
+
+pub each_inside : (d : List Name) (next : List Term) (cells variables : ℕ) → cells ≡ length next → variables ≡ length d → EachStands d next → All (IsInside cells variables) next
+each_inside d next cells variables c v each = λ k m lt.
+    let (b, h) = each k (get_or next k m) (slice_get-get_or next k m lt) in
+    inside d next cells variables c v h

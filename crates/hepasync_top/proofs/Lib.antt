@@ -1,2 +1,4 @@
 pub mod Names
 pub mod Compiling
+pub mod Known
+pub mod Body

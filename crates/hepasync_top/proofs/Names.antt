@@ -1,7 +1,7 @@
 -- Names in lists: the position of a name, and names that all differ.
-use Rattle.std.proofs.Common.{◌≡◌, ◌≢◌, ℕ, zero, suc, ◌+◌, ◌<◌, ◌≤◌, Bool, true, false, ◌||◌, cond, List, [], ◌∷◌, ◌++◌, length, map, Some, None, refl, sym, ap, subst, arith, ◌∙◌}
+use Rattle.std.proofs.Common.{◌≡◌, ◌≢◌, ℕ, zero, suc, ◌+◌, ◌<◌, ◌≤◌, Bool, true, false, ◌||◌, ◌⊎◌, inl, inr, cond, List, [], ◌∷◌, ◌++◌, length, map, Some, None, refl, sym, ap, subst, add-one, arith, ◌∙◌}
 use Rattle.std.specs.Prelude.{slice_get}
-use Rattle.std.specs.List.{list_any}
+use Rattle.std.specs.List.{list_any, AllByRecursion, IsDistinct}
 use Rattle.std.proofs.lemmas.Slice.Eq.{bytes_eq-Decides}
 use Rattle.hept_ast.specs.Texts.{Name, same, place_in, is_in}
 
@@ -27,3 +27,73 @@ pub place_in-past : (x : Name) (xs ys : List Name) → length xs ≤ place_in x 
 place_in-past x [] ys h = omega arith
 place_in-past x (y ∷ xs) ys h = past_step (same x y) (place_in x (xs ++ ys)) (place_in x xs) (length xs) (place_in x ys) (place_in-past x xs ys) h
 
+-- ---- the name at a position
+
+later_at : (y : Name) (xs : List Name) (k : ℕ) (x : Name) → slice_get xs k ≡ Some x → slice_get (y ∷ xs) (k + 1) ≡ Some x
+later_at y xs k x h = rw add-one h
+
+later_in : (a b : Bool) → a ≡ false → (a || b) ≡ true → b ≡ true
+later_in true b e h = absurd (cc)
+later_in false b e h = h
+
+pub named_at : (x : Name) (xs : List Name) → is_in x xs ≡ true → slice_get xs (place_in x xs) ≡ Some x
+named_at x [] h = absurd (cc)
+named_at x (y ∷ xs) h =
+    let step : (b : Bool) → same x y ≡ b → slice_get (y ∷ xs) (cond b 0 (place_in x xs + 1)) ≡ Some x =
+        λ b. elim b as (λ c. same x y ≡ c → slice_get (y ∷ xs) (cond c 0 (place_in x xs + 1)) ≡ Some x)
+        [ true ↦ λ e. ap Some (sym (same_names x y e))
+        | false ↦ λ e. later_at y xs (place_in x xs) x (named_at x xs (later_in (same x y) (is_in x xs) e h)) ] in
+    step (same x y) refl
+
+-- ---- names that all differ
+
+pub in_first : (a b : Bool) → a ≡ true → (a || b) ≡ true
+in_first true b h = refl
+in_first false b h = absurd (cc)
+
+pub in_rest : (a b : Bool) → b ≡ true → (a || b) ≡ true
+in_rest true b h = refl
+in_rest false b h = h
+
+not_same : (x y : Name) → same y x ≡ false → same x y ≡ false
+not_same x y h = by_bool (same x y) refl
+  where
+    by_bool : (b : Bool) → same x y ≡ b → same x y ≡ false
+    by_bool true e =
+        let f : x ≡ y = same_names x y e in
+        let g : same y x ≡ true = subst (λ (z : Name). same z x ≡ true) f (same_name x) in
+        absurd (cc)
+    by_bool false e = e
+
+apart_step : (y x z : Name) (b : Bool) (xs : List Name) → same x z ≡ b → same y z ≡ false → (is_in x xs ≡ true → same x y ≡ false) →
+    (b || is_in x xs) ≡ true → same x y ≡ false
+apart_step y x z true xs e h k g = not_same x y (subst (λ (n : Name). same y n ≡ false) (sym (same_names x z e)) h)
+apart_step y x z false xs e h k g = k g
+
+place_step : (b : Bool) (m k : ℕ) → ((b ≡ true) × (k ≡ 0)) ⊎ ((b ≡ false) × (suc m ≡ k)) → cond b 0 (m + 1) ≡ k
+place_step true m k (inl h) = sym h.1
+place_step true m k (inr h) = absurd (cc)
+place_step false m k (inl h) = absurd (cc)
+place_step false m k (inr h) = let e : suc m ≡ k = h.1 in omega arith
+
+pub named_within : (x : Name) (xs : List Name) (k : ℕ) → slice_get xs k ≡ Some x → is_in x xs ≡ true
+named_within x [] k h = absurd (cc)
+named_within x (y ∷ xs) zero h =
+    let e : y ≡ x = cc in
+    in_first (same x y) (is_in x xs) (subst (λ (z : Name). same x z ≡ true) (sym e) (same_name x))
+named_within x (y ∷ xs) (suc k) h = in_rest (same x y) (is_in x xs) (named_within x xs k h)
+
+-- what is apart from all is apart from each
+pub apart : (y x : Name) (xs : List Name) → AllByRecursion (λ z. same y z ≡ false) xs → is_in x xs ≡ true → same x y ≡ false
+apart y x [] h g = absurd (cc)
+apart y x (z ∷ xs) h g = apart_step y x z (same x z) xs refl h.0 (λ k. apart y x xs h.1 k) g
+
+-- a name among names that all differ has one position
+pub place_of : (x : Name) (xs : List Name) (k : ℕ) → IsDistinct same xs → slice_get xs k ≡ Some x → place_in x xs ≡ k
+unfolding IsDistinct
+place_of x [] k d h = absurd (cc)
+place_of x (y ∷ xs) zero d h =
+    let e : y ≡ x = cc in
+    place_step (same x y) (place_in x xs) 0 (inl (subst (λ (z : Name). same x z ≡ true) (sym e) (same_name x), refl))
+place_of x (y ∷ xs) (suc k) d h =
+    place_step (same x y) (place_in x xs) (suc k) (inr (apart y x xs d.0 (named_within x xs k h), ap suc (place_of x xs k d.1 h)))

@@ -64,3 +64,7 @@ StandsFor declared next m e = (known : List Name) → ServedExpr declared known 
 
 abbrev pub Extends : List Term → List Term → Type 0
 Extends old new = (more : List Term) × (new ≡ old ++ more)
+
+-- each term of the list stands for some expression whose variables are declared
+abbrev pub EachStands : List Name → List Term → Type 0
+EachStands declared next = (k : ℕ) (m : Term) → slice_get next k ≡ Some m → (b : Expr) × Compiled declared next declared m b

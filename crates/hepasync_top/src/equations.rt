@@ -1,7 +1,9 @@
 ghost use Rattle.std.specs.Prelude.{◌≡◌, ◌++◌, ◌∷◌, [], length, IfOk, OnErr, OnOk};
 ghost use Rattle.hept_ast.specs.Texts.{const_value, names, place_in};
 ghost use Rattle.ept_reader.specs.Served.{ServedExpr};
+ghost use Rattle.hepasync_top.specs.Stepping.{IsAssignmentOf, IsServedEquation};
 ghost use Rattle.hepasync_top.specs.Terms.{
+  EachStands,
   Extends,
   IsInside,
   IsNumber,
@@ -11,7 +13,7 @@ ghost use Rattle.hepasync_top.specs.Terms.{
   term_value,
 };
 
-use hept_ast::{BinaryOp, Const, Decl, Expr, Form, Memory, Name, Node};
+use hept_ast::{BinaryOp, Const, Decl, Equation, Expr, Form, Memory, Name, Node};
 use sqlite_items::Items;
 use std::alloc::{AllocError, Global};
 
@@ -24,6 +26,13 @@ pub(crate) enum Term {
     Sub(Box<Term>, Box<Term>),
     /// What the cell holds, or the first operand where it is empty.
     Fby(usize, Box<Term>),
+}
+
+/// An equation: the position of its variable, and its right side.
+#[derive(Drop)]
+pub(crate) struct Assignment {
+    pub(crate) variable: usize,
+    pub(crate) right: Term,
 }
 
 impl Term {
@@ -132,6 +141,7 @@ pub(crate) fn compile(
     requires { ServedExpr variables.now variables.now e.now }
     ensures grows { Extends next.old.items next.new.items }
     ensures term { IfOk result (λ m. StandsFor variables.now next.new.items m e.now) }
+    ensures right_operands { OnOk result (EachStands variables.now next.old.items → EachStands variables.now next.new.items) }
 {
     match &e.form {
         Form::Const(k) => Ok(Term::Number(bits(k))),
@@ -149,6 +159,29 @@ pub(crate) fn compile(
             let first = boxed(alloc, first)?;
             let cell = push_term(next, later)?;
             Ok(Term::Fby(cell, first))
+        }
+        _ => unreachable!(),
+    }
+}
+
+/// The assignment of an equation.
+fn compile_equation(
+    alloc: Global,
+    equation: &Equation,
+    variables: &[Name],
+    next: &mut Vec<Term>,
+) -> Result<Assignment, Memory>
+    requires { IsServedEquation variables.now equation.now }
+    ensures grows { Extends next.old.items next.new.items }
+    ensures assigns { IfOk result (λ q. IsAssignmentOf variables.now next.new.items q equation.now) }
+    ensures right_operands { OnOk result (EachStands variables.now next.old.items → EachStands variables.now next.new.items) }
+{
+    match equation {
+        Equation::Define { left, right, .. } => {
+            let left = left.as_slice();
+            let variable = position(variables, &left[0]);
+            let right = compile(alloc, right, variables, next)?;
+            Ok(Assignment { variable, right })
         }
         _ => unreachable!(),
     }

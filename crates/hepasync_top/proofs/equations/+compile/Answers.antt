@@ -1,6 +1,6 @@
 use Rattle.std.proofs.Common.{List, refl}
 use Rattle.hept_ast.specs.Texts.{Name}
-use Rattle.hepasync_top.proofs.Compiling.{served_number, served_operation, number_stands, variable_stands, binary_stands, fby_stands, same_stands}
+use Rattle.hepasync_top.proofs.Compiling.{served_number, served_operation, number_stands, variable_stands, binary_stands, fby_stands, same_stands, pushed_stands}
 use Rattle.hepasync_top.proofs.equations.+compile.Goals as goal
 
 pub returns-in-Const-clause-term : goal.returns-in-Const-clause-term
@@ -30,3 +30,15 @@ returns-in_ok-cell-in-Fby-clause-term t c =
     (same_stands d c.compile-in-Fby.new.next.items c.in_ok-first-in-Fby.first c.in_ok-first-in-Fby-2.first.value c.get-in-Fby.result.now c.in-Fby.a c.in_ok-first-in-Fby.ensures.term c.in_ok-first-in-Fby-2.ensures c.get-in-Fby.ensures)
     (same_stands d c.compile-in-Fby-2.new.next.items c.in_ok-later-in-Fby.later c.in_ok-later-in-Fby.later c.get-in-Fby-2.result.now c.in-Fby.b c.in_ok-later-in-Fby.ensures.term refl c.get-in-Fby-2.ensures)
     c.in_ok-cell-in-Fby.ensures.on_ok.0 c.in_ok-cell-in-Fby.ensures.on_ok.1
+
+pub returns-in_ok-b-in-Binary-2-clause-right_operands :
+    goal.returns-in_ok-b-in-Binary-2-clause-right_operands
+returns-in_ok-b-in-Binary-2-clause-right_operands t c = λ each. c.in_ok-b-in-Binary.ensures.right_operands (c.in_ok-a-in-Binary.ensures.right_operands each)
+
+pub returns-in_ok-cell-in-Fby-clause-right_operands :
+    goal.returns-in_ok-cell-in-Fby-clause-right_operands
+returns-in_ok-cell-in-Fby-clause-right_operands t c = λ each.
+    let d : List Name = c.args.variables.now in
+    pushed_stands d c.compile-in-Fby-2.new.next.items c.push_term.new.terms.items c.args.e.now c.in-Fby.a c.in-Fby.b c.in_ok-later-in-Fby.later c.in-Fby.is c.requires
+    (same_stands d c.compile-in-Fby-2.new.next.items c.in_ok-later-in-Fby.later c.in_ok-later-in-Fby.later c.get-in-Fby-2.result.now c.in-Fby.b c.in_ok-later-in-Fby.ensures.term refl c.get-in-Fby-2.ensures)
+    c.in_ok-cell-in-Fby.ensures.on_ok.0 (c.in_ok-later-in-Fby.ensures.right_operands (c.in_ok-first-in-Fby.ensures.right_operands each))

@@ -1,0 +1,159 @@
+-- The equations of a served program in their order: what is known after them.
+use Rattle.std.proofs.Common.{◌≡◌, ◌≢◌, ◌⊎◌, inl, inr, ℕ, zero, suc, ◌+◌, ◌-◌, ◌%◌, ◌^◌, ◌<◌, ◌≤◌, Bool, true, false, ◌||◌, cond, eqb, List, [], ◌∷◌, ◌++◌, length, get_or, set, fold, Option, Some, None, refl, sym, ap, subst, arith, ◌∙◌, get_or-set_same, get_or-set_other, length-set}
+use Rattle.std.specs.Prelude.{slice_get, slice_set, slice_index, slice_index_or}
+use Rattle.std.specs.List.{AllByRecursion, IsDistinct}
+use Rattle.std.proofs.lemmas.Bool.Decides.{Decides-eqb}
+use Rattle.std.proofs.lemmas.Option.{slice_get_within}
+use Rattle.std.proofs.lemmas.List.Folds.{list_any-append}
+use Rattle.hept_ast.specs.Texts.{Name, same, is_in, names, place_in}
+use Rattle.hept_ast.specs.Scopes.{Text, Written, Scope, Clock, Top, declares}
+use Rattle.hept_ast.specs.Meaning.{Question, Gives, Variable, Defined, Defines, Answer, Unknown, Value, Is, Rule, Says, Reads, Setting, answer_to, rule, clock_seen, right_rule, defines_rule, equation_rule, block_rule, input_at}
+use Rattle.hept_ast.specs.Outputs.{Knows, Follows, said, read, asked}
+use Rattle.hept_ast.specs.declared.tree.Program.{Program}
+use Rattle.hept_ast.specs.declared.tree.Node.{Node}
+use Rattle.hept_ast.specs.declared.tree.Expr.{Expr}
+use Rattle.hept_ast.specs.declared.tree.Block.{Block}
+use Rattle.hept_ast.specs.declared.tree.Branch.{Branch}
+use Rattle.hept_ast.specs.declared.tree.State.{State}
+use Rattle.hept_ast.specs.declared.tree.Equation.{Equation, out-Equation}
+use Rattle.hept_ast.specs.declared.tree.Equation.TheOpen.{Equation-F}
+use Rattle.hept_ast.proofs.Depths.{to_rule}
+use Rattle.ept_reader.specs.Served.{ServedExpr, ServedBody, none, next}
+use Rattle.hepasync_top.specs.declared.equations.Term.{Term}
+use Rattle.hepasync_top.specs.declared.equations.Assignment.{Assignment}
+use Rattle.hepasync_top.specs.Terms.{StandsFor, declared_names, term_value}
+use Rattle.hepasync_top.specs.Stepping.{setting, AreKnown, AllHold, Assigns, no_equation, equation}
+use Rattle.hepasync_top.proofs.Names.{same_name, same_names, named_at, apart, place_of, in_first, in_rest}
+use Rattle.hepasync_top.proofs.Known.{K, top, present, term_gives}
+
+-- the values after an assignment
+abbrev pub assigned : List (Option ℕ) → List ℕ → Assignment → List ℕ
+assigned cells values q = slice_set values q.variable (term_value cells values q.right)
+
+-- ---- what an equation defines
+
+-- what the equations from here on say of a variable is its value
+abbrev Leads : Program → Node → List (List ℕ) → ℕ → List Name → List Equation → Type 0
+Leads p node rows t defined es = (x : Name) (v : ℕ) → is_in x defined ≡ true →
+    Follows (K p rows) rows (block_rule (setting p) es x (top node) t) (Value v) → K p rows (Variable x (top node) t) (Value v)
+
+defines : (p : Program) (rows : List (List ℕ)) (x y : Name) (b : Bool) (e : Equation) (place : _) (right : Expr) →
+    out-Equation e ≡ Equation-F.Define place (y ∷ []) right → is_in x (y ∷ []) ≡ b → K p rows (Defines x e) (Is b)
+defines p rows x y b e place right h g = to_rule (setting p) rows _ _
+    (subst (λ (f : Equation-F Equation Block Branch State). Follows (K p rows) rows (defines_rule (setting p) f x) (Is b)) (sym h)
+    (subst (λ (c : Bool). Follows (K p rows) rows (Says (Is (is_in x (y ∷ [])))) (Is c)) g said)) (λ i. cc)
+
+by_definition : (p : Program) (node : Node) (rows : List (List ℕ)) (t v : ℕ) (x : Name) → is_in x (names node.inputs) ≡ false →
+    Follows (K p rows) rows (block_rule (setting p) node.block.body x (top node) t) (Value v) → K p rows (Variable x (top node) t) (Value v)
+by_definition p node rows t v x h g =
+    let defined : K p rows (Defined x (top node) t) (Value v) = to_rule (setting p) rows _ _ g (λ i. cc) in
+    to_rule (setting p) rows _ _ (asked (present p node rows t)
+    (subst (λ (b : Bool). Follows (K p rows) rows (cond b (Reads t (place_in x (names node.inputs))) (answer_to (Defined x (top node) t))) (Value v)) (sym h)
+    (asked defined said))) (λ i. cc)
+
+-- an equation's variable, where its right side gives a value
+defined_here : (p : Program) (node : Node) (rows : List (List ℕ)) (t v : ℕ) (y : Name) (e : Equation) (place : _) (right : Expr) →
+    out-Equation e ≡ Equation-F.Define place (y ∷ []) right → K p rows (Gives right [] (top node) t) (Value v) →
+    Follows (K p rows) rows (equation_rule (setting p) (out-Equation e) y (top node) t) (Value v)
+defined_here p node rows t v y e place right h g =
+    subst (λ (f : Equation-F Equation Block Branch State). Follows (K p rows) rows (equation_rule (setting p) f y (top node) t) (Value v)) (sym h)
+    (by_clock (declares (top node) y))
+  where
+    by_clock : (b : Bool) → Follows (K p rows) rows (right_rule (setting p) (y ∷ []) right y (cond b [] []) (top node) t) (Value v)
+    by_clock true = asked g said
+    by_clock false = asked g said
+
+head_known : (p : Program) (node : Node) (rows : List (List ℕ)) (t v : ℕ) (y : Name) (rest : List Name) (e : Equation) (es : List Equation) (place : _) (right : Expr) →
+    Leads p node rows t (y ∷ rest) (e ∷ es) → out-Equation e ≡ Equation-F.Define place (y ∷ []) right →
+    K p rows (Gives right [] (top node) t) (Value v) → K p rows (Variable y (top node) t) (Value v)
+head_known p node rows t v y rest e es place right leads h g =
+    leads y v (in_first (same y y) (is_in y rest) (same_name y))
+    (asked (defines p rows y y true e place right h (in_first (same y y) false (same_name y))) (defined_here p node rows t v y e place right h g))
+
+no_other : (a : Bool) → a ≡ false → (a || false) ≡ false
+no_other true h = h
+no_other false h = refl
+
+rest_leads : (p : Program) (node : Node) (rows : List (List ℕ)) (t : ℕ) (y : Name) (rest : List Name) (e : Equation) (es : List Equation) (place : _) (right : Expr) →
+    Leads p node rows t (y ∷ rest) (e ∷ es) → out-Equation e ≡ Equation-F.Define place (y ∷ []) right →
+    AllByRecursion (λ z. same y z ≡ false) rest → Leads p node rows t rest es
+rest_leads p node rows t y rest e es place right leads h distinct = λ x v among g.
+    leads x v (in_rest (same x y) (is_in x rest) among)
+    (asked (defines p rows x y false e place right h (no_other (same x y) (apart y x rest distinct among))) g)
+
+-- ---- one assignment
+
+is_last : (a b : Bool) → (a || (b || false)) ≡ true → b ≡ false → a ≡ true
+is_last true b h g = refl
+is_last false true h g = absurd (cc)
+is_last false false h g = absurd (cc)
+
+set_known : (p : Program) (node : Node) (rows : List (List ℕ)) (t v i : ℕ) (y : Name) (known : List Name) (values : List ℕ) →
+    IsDistinct same (declared_names node) → i ≡ place_in y (declared_names node) → is_in y (declared_names node) ≡ true →
+    length values ≡ length (declared_names node) → AreKnown p node rows t known values → K p rows (Variable y (top node) t) (Value v) →
+    AreKnown p node rows t (known ++ y ∷ []) (slice_set values i v)
+set_known p node rows t v i y known values distinct place declared len vars here = λ k x at among. by_place k x at among (eqb k i) refl
+  where
+    at_place : slice_get (declared_names node) i ≡ Some y
+    at_place = ap (λ j. slice_get (declared_names node) j) place ∙ named_at y (declared_names node) declared
+    other : (k : ℕ) (x : Name) → k ≢ i → slice_get (declared_names node) k ≡ Some x → same x y ≡ false
+    other k x ne at = by_name (same x y) refl
+      where
+        by_name : (b : Bool) → same x y ≡ b → same x y ≡ false
+        by_name true e =
+            let f : x ≡ y = same_names x y e in
+            let g : place_in y (declared_names node) ≡ k = place_of y (declared_names node) k distinct (at ∙ ap Some f) in
+            absurd (ne (sym g ∙ sym place))
+        by_name false e = e
+    by_place : (k : ℕ) (x : Name) → slice_get (declared_names node) k ≡ Some x → is_in x (known ++ y ∷ []) ≡ true → (b : Bool) → eqb k i ≡ b →
+        K p rows (Variable x (top node) t) (Value (slice_index (slice_set values i v) k))
+    by_place k x at among true e =
+        let f : k ≡ i = (Decides-eqb k i).0 e in
+        let within : i < length values = subst (λ (n : ℕ). i < n) (sym len) (slice_get_within (declared_names node) i y at_place) in
+        let g : slice_index (slice_set values i v) k ≡ v = ap (λ j. get_or (set values i v) j 0) f ∙ get_or-set_same values i v 0 within in
+        let same_as : Some y ≡ Some x = sym at_place ∙ ap (λ j. slice_get (declared_names node) j) (sym f) ∙ at in
+        let eq : y ≡ x = cc in
+        subst (λ (z : Name). K p rows (Variable z (top node) t) (Value (slice_index (slice_set values i v) k))) eq
+        (subst (λ (n : ℕ). K p rows (Variable y (top node) t) (Value n)) (sym g) here)
+    by_place k x at among false e =
+        let ne : k ≢ i = λ f. let g : eqb k i ≡ true = (Decides-eqb k i).1 f in cc in
+        let g : slice_index (slice_set values i v) k ≡ slice_index values k = get_or-set_other values i k v 0 ne in
+        let before : is_in x known ≡ true = is_last (is_in x known) (same x y) (sym (list_any-append (same x) known (y ∷ [])) ∙ among) (other k x ne at) in
+        subst (λ (n : ℕ). K p rows (Variable x (top node) t) (Value n)) (sym g) (vars k x at before)
+
+-- ---- all equations
+
+either_step : (a b : Bool) (known_now : Bool) → known_now ≡ (a || (b || false)) → (c : Bool) → (a ≡ true) ⊎ ((b || c) ≡ true) → (known_now ≡ true) ⊎ (c ≡ true)
+either_step true b n e c h = inl e
+either_step false true n e c h = inl e
+either_step false false n e c (inl h) = absurd (cc)
+either_step false false n e c (inr h) = inr h
+
+pub all_known : (p : Program) (node : Node) (rows : List (List ℕ)) (t : ℕ) (ts : List Term) (cells : List (Option ℕ)) →
+    AllHold p node rows t ts cells → IsDistinct same (declared_names node) →
+    {known defined : List Name} {es : List Equation} → ServedBody (declared_names node) known es defined → (qs : List Assignment) (values : List ℕ) →
+    Assigns (declared_names node) ts qs es → Leads p node rows t defined es → IsDistinct same defined →
+    ((x : Name) → is_in x defined ≡ true → is_in x (declared_names node) ≡ true) →
+    length values ≡ length (declared_names node) → AreKnown p node rows t known values →
+    (k : ℕ) (x : Name) → slice_get (declared_names node) k ≡ Some x → (is_in x known ≡ true) ⊎ (is_in x defined ≡ true) →
+    K p rows (Variable x (top node) t) (Value (slice_index (fold (assigned cells) values qs) k))
+unfolding IsDistinct
+all_known p node rows t ts cells holds distinct none [] values no_equation leads once declared len vars k x at (inl h) = vars k x at h
+all_known p node rows t ts cells holds distinct none [] values no_equation leads once declared len vars k x at (inr h) = absurd (cc)
+all_known p node rows t ts cells holds distinct none (q ∷ qs) values stands leads once declared len vars k x at among = elim stands [ ]
+all_known p node rows t ts cells holds distinct (next place y right h served more) [] values stands leads once declared len vars k x at among = elim stands [ ]
+all_known p node rows t ts cells holds distinct {known = known} {es = e ∷ es} (next {defined = rest} place y right h served more) (q ∷ qs) values
+    (equation place2 y2 right2 h2 at_q in_d served_d stands others) leads once declared len vars k x at among =
+    let d : List Name = declared_names node in
+    let same_y : y2 ≡ y = cc in
+    let same_right : right2 ≡ right = cc in
+    let v : ℕ = term_value cells values q.right in
+    let right_gives : K p rows (Gives right [] (top node) t) (Value v) =
+        term_gives p node rows t ts cells values holds vars (subst (λ (r : Expr). StandsFor d ts q.right r) same_right stands known served) in
+    let here : K p rows (Variable y (top node) t) (Value v) = head_known p node rows t v y rest e es place right leads h right_gives in
+    let place_y : q.variable ≡ place_in y d = at_q ∙ ap (λ z. place_in z d) same_y in
+    all_known p node rows t ts cells holds distinct more qs (slice_set values q.variable v) others
+    (rest_leads p node rows t y rest e es place right leads h once.0) once.1 (λ z g. declared z (in_rest (same z y) (is_in z rest) g))
+    (length-set values q.variable v ∙ len)
+    (set_known p node rows t v q.variable y known values distinct place_y (declared y (in_first (same y y) (is_in y rest) (same_name y))) len vars here)
+    k x at (either_step (is_in x known) (same x y) (is_in x (known ++ y ∷ [])) (list_any-append (same x) known (y ∷ [])) (is_in x rest) among)
