@@ -17,6 +17,9 @@ use Rattle.ept_reader.specs.Served.{ServedExpr, number, variable, sum, fby}
 use Rattle.hepasync_top.specs.declared.equations.Term.{Term}
 use Rattle.hepasync_top.specs.declared.equations.Term.TheVariants.{Number, Variable, Add', Sub', Fby'}
 use Rattle.hepasync_top.specs.Terms.{Compiled, number_term, variable_term, sum_term, difference_term, fby_term, IsNumber, IsSumOrDifference, StandsFor, Extends, EachStands, IsInside}
+use Rattle.hept_ast.specs.declared.tree.Equation.{Equation}
+use Rattle.hepasync_top.specs.declared.equations.Assignment.{Assignment}
+use Rattle.hepasync_top.specs.Stepping.{Assigns, no_equation, equation, IsServedEquation, IsAssignmentOf}
 use Rattle.hepasync_top.proofs.Names.{named_at}
 
 -- ---- the forms of what was read
@@ -192,3 +195,34 @@ pub each_inside : (d : List Name) (next : List Term) (cells variables : ℕ) →
 each_inside d next cells variables c v each = λ k m lt.
     let (b, h) = each k (get_or next k m) (slice_get-get_or next k m lt) in
     inside d next cells variables c v h
+
+-- ---- equations
+
+stands_longer : (d : List Name) (next all : List Term) (m : Term) (e : Expr) → Extends next all → StandsFor d next m e → StandsFor d all m e
+stands_longer d next all m e x h = λ known served. extended d next all known m e x (h known served)
+
+assigns_longer : (d : List Name) (next all : List Term) (qs : List Assignment) (es : List Equation) → Extends next all → Assigns d next qs es → Assigns d all qs es
+assigns_longer d next all [] [] x no_equation = no_equation
+assigns_longer d next all [] (e ∷ es) x h = elim h [ ]
+assigns_longer d next all (q ∷ qs) [] x h = elim h [ ]
+assigns_longer d next all (q ∷ qs) (e ∷ es) x (equation place y right h g k served stands others) =
+    equation place y right h g k served (stands_longer d next all q.right right x stands) (assigns_longer d next all qs es x others)
+
+assigns_last : (d : List Name) (next : List Term) (q : Assignment) (e : Equation) → IsServedEquation d e → IsAssignmentOf d next q e →
+    (qs : List Assignment) (es : List Equation) → Assigns d next qs es → Assigns d next (qs ++ q ∷ []) (es ++ e ∷ [])
+assigns_last d next q e s h [] [] no_equation =
+    let k : (q.variable ≡ place_in s.name d) × StandsFor d next q.right s.right = h s.place s.name s.right s.is in
+    equation s.place s.name s.right s.is k.0 s.is_declared s.served k.1 no_equation
+assigns_last d next q e s h [] (f ∷ es) g = elim g [ ]
+assigns_last d next q e s h (r ∷ qs) [] g = elim g [ ]
+assigns_last d next q e s h (r ∷ qs) (f ∷ es) (equation place y right i g k served stands others) =
+    equation place y right i g k served stands (assigns_last d next q e s h qs es others)
+
+pub assigns_more : (d : List Name) (next all : List Term) (q : Assignment) (e : Equation) (qs more : List Assignment) (es longer : List Equation) →
+    Extends next all → IsServedEquation d e → IsAssignmentOf d all q e → more ≡ qs ++ q ∷ [] → longer ≡ es ++ e ∷ [] → Assigns d next qs es → Assigns d all more longer
+assigns_more d next all q e qs more es longer x s h f g old =
+    subst (λ (fs : List Equation). Assigns d all more fs) (sym g)
+    (subst (λ (rs : List Assignment). Assigns d all rs (es ++ e ∷ [])) (sym f) (assigns_last d all q e s h qs es (assigns_longer d next all qs es x old)))
+
+pub assigns_none : (d : List Name) (next : List Term) (qs : List Assignment) → qs ≡ [] → Assigns d next qs []
+assigns_none d next qs h = subst (λ (rs : List Assignment). Assigns d next rs []) (sym h) no_equation

@@ -1,7 +1,7 @@
-ghost use Rattle.std.specs.Prelude.{◌≡◌, ◌++◌, ◌∷◌, [], length, IfOk, OnErr, OnOk};
+ghost use Rattle.std.specs.Prelude.{◌≡◌, ◌++◌, ◌∷◌, [], All, length, IfOk, OnErr, OnOk};
 ghost use Rattle.hept_ast.specs.Texts.{const_value, names, place_in};
 ghost use Rattle.ept_reader.specs.Served.{ServedExpr};
-ghost use Rattle.hepasync_top.specs.Stepping.{IsAssignmentOf, IsServedEquation};
+ghost use Rattle.hepasync_top.specs.Stepping.{Assigns, IsAssignmentOf, IsServedEquation};
 ghost use Rattle.hepasync_top.specs.Terms.{
   EachStands,
   Extends,
@@ -120,14 +120,12 @@ fn boxed(alloc: Global, term: Term) -> Result<Box<Term>, Memory>
     Ok(Box::new(alloc, term).map_err(AllocError::from)?)
 }
 
-/// Adds a term, and says where it stands.
-fn push_term(terms: &mut Vec<Term>, term: Term) -> Result<usize, Memory>
-    ensures on_ok { IfOk result (λ at. (terms.new.items ≡ terms.old.items ++ term ∷ []) × (at ≡ length terms.old.items)) }
-    ensures on_err { OnErr result (terms.new.items ≡ terms.old.items) }
+fn push<T: Drop>(items: &mut Vec<T>, item: T) -> Result<(), Memory>
+    ensures on_ok { OnOk result (items.new.items ≡ items.old.items ++ item ∷ []) }
+    ensures on_err { OnErr result (items.new.items ≡ items.old.items) }
 {
-    let at = terms.len();
-    terms.push(term).map_err(AllocError::from)?;
-    Ok(at)
+    items.push(item).map_err(AllocError::from)?;
+    Ok(())
 }
 
 /// The term of an expression over the positions of the variables. The right operands of its `fby`s are
@@ -157,7 +155,8 @@ pub(crate) fn compile(
             let first = compile(alloc, a.get(), variables, next)?;
             let later = compile(alloc, b.get(), variables, next)?;
             let first = boxed(alloc, first)?;
-            let cell = push_term(next, later)?;
+            let cell = next.len();
+            push(next, later)?;
             Ok(Term::Fby(cell, first))
         }
         _ => unreachable!(),
@@ -185,4 +184,23 @@ fn compile_equation(
         }
         _ => unreachable!(),
     }
+}
+
+/// The assignments of a body, in its order.
+pub(crate) fn compile_body(
+    alloc: Global,
+    body: &[Equation],
+    variables: &[Name],
+    next: &mut Vec<Term>,
+) -> Result<Vec<Assignment>, Memory>
+    requires { All (IsServedEquation variables.now) body.now }
+    ensures assigns { IfOk result (λ qs. Assigns variables.now next.new.items qs.items body.now) }
+    ensures right_operands { OnOk result (EachStands variables.now next.old.items → EachStands variables.now next.new.items) }
+{
+    let mut all = Vec::new(alloc);
+    for equation in body {
+        let assignment = compile_equation(alloc, equation, variables, next)?;
+        push(&mut all, assignment)?;
+    }
+    Ok(all)
 }

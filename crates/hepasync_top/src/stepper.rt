@@ -1,3 +1,7 @@
+ghost use Rattle.std.specs.Prelude.{◌≡◌, ℕ, ◌+◌, ◌<◌, ◌≤◌, [], ◌∷◌, ◌++◌, List, All, Some, IfOk, length, map, slice_index};
+ghost use Rattle.hepasync_top.specs.Terms.{IsInside, term_value};
+ghost use Rattle.hepasync_top.specs.Instants.{HasRow, IsAssignmentInside, MakesKnown};
+
 use crate::equations::{Assignment, Term};
 
 /// A program with what it keeps between two instants.
