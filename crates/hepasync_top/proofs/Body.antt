@@ -9,6 +9,8 @@ use Rattle.hept_ast.specs.Texts.{Name, same, is_in, names, place_in}
 use Rattle.hept_ast.specs.Scopes.{Text, Written, Scope, Clock, Top, declares}
 use Rattle.hept_ast.specs.Meaning.{Question, Gives, Variable, Defined, Defines, Answer, Unknown, Value, Is, Rule, Says, Reads, Setting, answer_to, rule, clock_seen, right_rule, defines_rule, equation_rule, block_rule, input_at}
 use Rattle.hept_ast.specs.Outputs.{Knows, Follows, said, read, asked}
+use Rattle.std.proofs.lemmas.List.{map-append}
+use Rattle.hept_ast.specs.declared.tree.Decl.{Decl}
 use Rattle.hept_ast.specs.declared.tree.Program.{Program}
 use Rattle.hept_ast.specs.declared.tree.Node.{Node}
 use Rattle.hept_ast.specs.declared.tree.Expr.{Expr}
@@ -22,8 +24,8 @@ use Rattle.ept_reader.specs.Served.{ServedExpr, ServedBody, none, next}
 use Rattle.hepasync_top.specs.declared.equations.Term.{Term}
 use Rattle.hepasync_top.specs.declared.equations.Assignment.{Assignment}
 use Rattle.hepasync_top.specs.Terms.{StandsFor, declared_names, term_value}
-use Rattle.hepasync_top.specs.Stepping.{setting, AreKnown, AllHold, Assigns, no_equation, equation}
-use Rattle.hepasync_top.proofs.Names.{same_name, same_names, named_at, apart, place_of, in_first, in_rest}
+use Rattle.hepasync_top.specs.Stepping.{setting, AreKnown, AllHold, MakesKnown, Assigns, no_equation, equation}
+use Rattle.hepasync_top.proofs.Names.{all_names, not_in_front, one_of, named_within, same_name, same_names, named_at, apart, place_of, in_first, in_rest}
 use Rattle.hepasync_top.proofs.Known.{K, top, present, term_gives}
 
 -- the values after an assignment
@@ -157,3 +159,32 @@ all_known p node rows t ts cells holds distinct {known = known} {es = e ∷ es} 
     (length-set values q.variable v ∙ len)
     (set_known p node rows t v q.variable y known values distinct place_y (declared y (in_first (same y y) (is_in y rest) (same_name y))) len vars here)
     k x at (either_step (is_in x known) (same x y) (is_in x (known ++ y ∷ [])) (list_any-append (same x) known (y ∷ [])) (is_in x rest) among)
+
+-- ---- a served program
+
+declared_parts : (node : Node) → declared_names node ≡ names node.inputs ++ names (node.outputs ++ node.block.locals)
+declared_parts node = map-append (λ (d : Decl). d.name) node.inputs (node.outputs ++ node.block.locals)
+
+pub makes_known : (qs : List Assignment) (cells : List (Option ℕ)) (old : List ℕ) → MakesKnown qs cells old (fold (assigned cells) old qs)
+makes_known qs cells old p served rows t ts holds assigns len vars = λ k x at among.
+    all_known p node rows t ts cells holds served.different served.body qs old assigns leads served.once declared len vars k x at (input_or_defined k x at)
+  where
+    node : Node
+    node = served.node
+    others : List Name
+    others = names (node.outputs ++ node.block.locals)
+    apart_parts : IsDistinct same (names node.inputs ++ others)
+    apart_parts = subst (λ (xs : List Name). IsDistinct same xs) (declared_parts node) served.different
+    other : (x : Name) → is_in x served.defined ≡ true → is_in x others ≡ true
+    other x h = all_names (λ y. is_in y others ≡ true) served.defined x served.no_others h
+    declared : (x : Name) → is_in x served.defined ≡ true → is_in x (declared_names node) ≡ true
+    declared x h = ap (is_in x) (declared_parts node) ∙ list_any-append (same x) (names node.inputs) others
+        ∙ in_rest (is_in x (names node.inputs)) (is_in x others) (other x h)
+    leads : Leads p node rows t served.defined node.block.body
+    leads x v h g = by_definition p node rows t v x (not_in_front x (names node.inputs) others apart_parts (other x h)) g
+    input_or_defined : (k : ℕ) (x : Name) → slice_get (declared_names node) k ≡ Some x → (is_in x (names node.inputs) ≡ true) ⊎ (is_in x served.defined ≡ true)
+    input_or_defined k x at =
+        let h : (is_in x (names node.inputs) || is_in x others) ≡ true =
+            sym (list_any-append (same x) (names node.inputs) others) ∙ ap (is_in x) (sym (declared_parts node)) ∙ named_within x (declared_names node) k at in
+        elim (one_of (is_in x (names node.inputs)) (is_in x others) h)
+        [ inl a ↦ inl a | inr b ↦ inr (all_names (λ y. is_in y served.defined ≡ true) others x served.each b) ]

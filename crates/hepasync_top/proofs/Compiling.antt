@@ -88,7 +88,7 @@ served_operands d known e a b (fby m n h u v) g =
 
 -- ---- more right operands
 
-kept_at : {X : Type 0} (xs ys : List X) (k : ℕ) (x : X) → slice_get xs k ≡ Some x → slice_get (xs ++ ys) k ≡ Some x
+pub kept_at : {X : Type 0} (xs ys : List X) (k : ℕ) (x : X) → slice_get xs k ≡ Some x → slice_get (xs ++ ys) k ≡ Some x
 kept_at [] ys k x h = absurd (cc)
 kept_at (y ∷ xs) ys zero x h = h
 kept_at (y ∷ xs) ys (suc k) x h = kept_at xs ys k x h

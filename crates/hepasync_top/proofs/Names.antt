@@ -1,8 +1,10 @@
 -- Names in lists: the position of a name, and names that all differ.
 use Rattle.std.proofs.Common.{◌≡◌, ◌≢◌, ℕ, zero, suc, ◌+◌, ◌<◌, ◌≤◌, Bool, true, false, ◌||◌, ◌⊎◌, inl, inr, cond, List, [], ◌∷◌, ◌++◌, length, map, Some, None, refl, sym, ap, subst, add-one, arith, ◌∙◌}
-use Rattle.std.specs.Prelude.{slice_get}
+use Rattle.std.specs.Prelude.{slice_get, All}
 use Rattle.std.specs.List.{list_any, AllByRecursion, IsDistinct}
 use Rattle.std.proofs.lemmas.Slice.Eq.{bytes_eq-Decides}
+use Rattle.std.proofs.lemmas.Option.{slice_get_within, get_or_from_slice_get}
+use Rattle.std.proofs.lemmas.List.Folds.{list_any-append}
 use Rattle.hept_ast.specs.Texts.{Name, same, place_in, is_in}
 
 pub same_names : (x y : Name) → same x y ≡ true → x ≡ y
@@ -97,3 +99,28 @@ place_of x (y ∷ xs) zero d h =
     place_step (same x y) (place_in x xs) 0 (inl (subst (λ (z : Name). same x z ≡ true) (sym e) (same_name x), refl))
 place_of x (y ∷ xs) (suc k) d h =
     place_step (same x y) (place_in x xs) (suc k) (inr (apart y x xs d.0 (named_within x xs k h), ap suc (place_of x xs k d.1 h)))
+
+-- ---- lists of names
+
+-- what holds of all names holds of one among them
+pub all_names : (P : Name → Type 0) (xs : List Name) (x : Name) → All P xs → is_in x xs ≡ true → P x
+all_names P xs x all h =
+    let at : slice_get xs (place_in x xs) ≡ Some x = named_at x xs h in
+    let lt : place_in x xs < length xs = slice_get_within xs (place_in x xs) x at in
+    subst P (get_or_from_slice_get xs (place_in x xs) x x at) (all (place_in x xs) x lt)
+
+-- a name of the second part is none of the first
+pub not_in_front : (x : Name) (xs ys : List Name) → IsDistinct same (xs ++ ys) → is_in x ys ≡ true → is_in x xs ≡ false
+unfolding IsDistinct
+not_in_front x [] ys d h = refl
+not_in_front x (y ∷ xs) ys d h =
+    let all : is_in x (xs ++ ys) ≡ true = list_any-append (same x) xs ys ∙ in_rest (is_in x xs) (is_in x ys) h in
+    neither (same x y) (is_in x xs) (apart y x (xs ++ ys) d.0 all) (not_in_front x xs ys d.1 h)
+  where
+    neither : (a b : Bool) → a ≡ false → b ≡ false → (a || b) ≡ false
+    neither true b e f = e
+    neither false b e f = f
+
+pub one_of : (a b : Bool) → (a || b) ≡ true → (a ≡ true) ⊎ (b ≡ true)
+one_of true b h = inl refl
+one_of false b h = inr h

@@ -120,7 +120,7 @@ fn boxed(alloc: Global, term: Term) -> Result<Box<Term>, Memory>
     Ok(Box::new(alloc, term).map_err(AllocError::from)?)
 }
 
-fn push<T: Drop>(items: &mut Vec<T>, item: T) -> Result<(), Memory>
+pub(crate) fn push<T: Drop>(items: &mut Vec<T>, item: T) -> Result<(), Memory>
     ensures on_ok { OnOk result (items.new.items ≡ items.old.items ++ item ∷ []) }
     ensures on_err { OnErr result (items.new.items ≡ items.old.items) }
 {

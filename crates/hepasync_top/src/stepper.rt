@@ -1,8 +1,18 @@
-ghost use Rattle.std.specs.Prelude.{◌≡◌, ℕ, ◌+◌, ◌<◌, ◌≤◌, [], ◌∷◌, ◌++◌, List, All, Some, IfOk, length, map, slice_index};
+ghost use Rattle.std.specs.Prelude.{◌≡◌, ℕ, ◌++◌, ◌∷◌, [], List, Some, None, All, EachIndex, IfOk, ◌≤◌, length, map, replicate, slice_index};
+ghost use Rattle.hept_ast.specs.declared.tree.Program.{Program};
+ghost use Rattle.ept_reader.specs.Served.{IsServed};
 ghost use Rattle.hepasync_top.specs.Terms.{IsInside, term_value};
-ghost use Rattle.hepasync_top.specs.Instants.{HasRow, IsAssignmentInside, MakesKnown};
+ghost use Rattle.hepasync_top.specs.Stepping.{
+  GivesLast,
+  IsAssignmentInside,
+  IsReady,
+  MakesKnown,
+  Stands,
+};
 
-use crate::equations::{Assignment, Term};
+use crate::equations::{Assignment, Term, compile_body, push, variables_of};
+use hept_ast::{Memory, Program};
+use std::alloc::Global;
 
 /// A program with what it keeps between two instants.
 #[derive(Drop)]
@@ -18,4 +28,97 @@ pub(crate) struct Stepper {
     cells: Vec<Option<u32>>,
     /// What the cells hold at the next instant.
     following: Vec<Option<u32>>,
+}
+
+fn filled<T: Copy>(alloc: Global, item: T, count: usize) -> Result<Vec<T>, Memory>
+    ensures { IfOk result (λ v. v.items ≡ replicate count item) }
+{
+    let mut all = Vec::new(alloc);
+    for _ in 0..count {
+        push(&mut all, item)?;
+    }
+    Ok(all)
+}
+
+fn put_row(values: &mut [u32], row: &[u32])
+    requires { length row.now ≤ length values.old }
+    ensures { EachIndex row.now (λ k. slice_index values.new k ≡ slice_index row.now k) }
+{
+    for (i, value) in row.iter().enumerate() {
+        values[i] = *value;
+    }
+}
+
+fn assign(equations: &[Assignment], cells: &[Option<u32>], values: &mut [u32])
+    requires { All (IsAssignmentInside (length cells.now) (length values.old)) equations.now }
+    ensures { MakesKnown equations.now cells.now values.old values.new }
+{
+    for equation in equations {
+        values[equation.variable] = equation.right.value(cells, values);
+    }
+}
+
+fn remember(next: &[Term], cells: &[Option<u32>], values: &[u32], following: &mut [Option<u32>])
+    requires inside { All (IsInside (length cells.now) (length values.now)) next.now }
+    requires room { length following.old ≡ length next.now }
+    ensures { following.new ≡ map (λ m. Some (term_value cells.now values.now m)) next.now }
+{
+    for (i, term) in next.iter().enumerate() {
+        following[i] = Some(term.value(cells, values));
+    }
+}
+
+impl Stepper {
+    pub(crate) fn new(alloc: Global, program: &Program) -> Result<Stepper, Memory>
+        requires { IsServed program.now }
+        ensures { IfOk result (λ s. Stands program.now [] s) }
+    {
+        let node = &program.nodes.as_slice()[0];
+        let variables = variables_of(alloc, node)?;
+        let mut next = Vec::new(alloc);
+        let body = node.block.body.as_slice();
+        let equations = compile_body(alloc, body, variables.as_slice(), &mut next)?;
+        let values = filled(alloc, 0, variables.len())?;
+        let cells = filled(alloc, None, next.len())?;
+        let following = filled(alloc, None, next.len())?;
+        Ok(Stepper {
+            inputs: node.inputs.len(),
+            outputs: node.outputs.len(),
+            equations,
+            next,
+            values,
+            cells,
+            following,
+        })
+    }
+
+    /// Steps the equations in the order of the text.
+    pub(crate) fn instant(&mut self, row: &[u32], out: &mut [u32])
+        requires ready { IsReady self.old }
+        requires row { length row.now ≡ self.old.inputs }
+        requires out { length out.old ≡ self.old.outputs }
+        ensures ready { IsReady self.new }
+        ensures inputs { self.new.inputs ≡ self.old.inputs }
+        ensures outputs { self.new.outputs ≡ self.old.outputs }
+        ensures gives { (p : Program) (rows : List (List ℕ)) → Stands p rows self.old → GivesLast p rows row.now out.new }
+        ensures stands { (p : Program) (rows : List (List ℕ)) → Stands p rows self.old → Stands p (rows ++ row.now ∷ []) self.new }
+    {
+        put_row(self.values.as_mut_slice(), row);
+        assign(
+            self.equations.as_slice(),
+            self.cells.as_slice(),
+            self.values.as_mut_slice(),
+        );
+        remember(
+            self.next.as_slice(),
+            self.cells.as_slice(),
+            self.values.as_slice(),
+            self.following.as_mut_slice(),
+        );
+        self.cells
+            .as_mut_slice()
+            .copy_from_slice(self.following.as_slice());
+        let end = self.inputs + self.outputs;
+        out.copy_from_slice(&self.values[self.inputs..end]);
+    }
 }

@@ -1,0 +1,1 @@
+-- The stepper before the first row.
