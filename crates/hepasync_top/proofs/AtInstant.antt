@@ -1,10 +1,13 @@
 -- One instant of a stepper: from the rows so far to the rows with one more.
-use Rattle.std.proofs.Common.{◌≡◌, ℕ, zero, suc, ◌+◌, ◌-◌, ◌<◌, ◌≤◌, Bool, true, false, cond, List, [], ◌∷◌, ◌++◌, length, get_or, take, drop, map, Option, Some, None, refl, sym, ap, subst, arith, ◌∙◌, length-append}
-use Rattle.std.specs.Prelude.{slice_get, slice_index, slice_index_or, slice_range, EachIndex}
+use Rattle.std.proofs.Common.{Vec, Global, ◌≡◌, ℕ, zero, suc, ◌+◌, ◌-◌, ◌<◌, ◌≤◌, Bool, true, false, cond, List, [], ◌∷◌, ◌++◌, length, get_or, take, drop, map, Option, Some, None, refl, sym, ap, subst, arith, ◌∙◌, length-append}
+use Rattle.std.specs.Prelude.{slice_get, slice_index, slice_index_or, slice_range, EachIndex, All}
+use Rattle.hepasync_top.specs.declared.stepper.Stepper.{Stepper}
 use Rattle.std.specs.List.{IsDistinct}
 use Rattle.std.proofs.lemmas.Option.{slice_get_within, get_or_from_slice_get}
 use Rattle.std.proofs.lemmas.List.{map-append, length-map}
 use Rattle.std.proofs.lemmas.List.Edits.{get_or-between, length-between}
+use Rattle.std.specs.Vec.{with_items}
+use Rattle.std.proofs.lemmas.List.{take_at}
 use Rattle.hept_ast.specs.Texts.{Name, same, is_in, names, place_in}
 use Rattle.hept_ast.specs.Scopes.{Written, Top}
 use Rattle.hept_ast.specs.Meaning.{Question, Gives, Variable, Defined, Value, Reads, answer_to, input_at}
@@ -17,8 +20,8 @@ use Rattle.hept_ast.proofs.Depths.{to_rule, kept_by_rows}
 use Rattle.ept_reader.specs.Served.{IsServed}
 use Rattle.hepasync_top.specs.declared.equations.Term.{Term}
 use Rattle.hepasync_top.specs.declared.equations.Assignment.{Assignment}
-use Rattle.hepasync_top.specs.Terms.{Compiled, declared_names, term_value}
-use Rattle.hepasync_top.specs.Stepping.{setting, GivesLast, AreKnown, Holds, AllHold, MakesKnown, Assigns}
+use Rattle.hepasync_top.specs.Terms.{Compiled, IsInside, declared_names, term_value}
+use Rattle.hepasync_top.specs.Stepping.{IsReady, IsAssignmentInside, setting, GivesLast, AreKnown, Holds, AllHold, MakesKnown, Assigns}
 use Rattle.hepasync_top.proofs.Names.{named_within, place_in-within, place_of, named_at, in_first}
 use Rattle.hepasync_top.proofs.Known.{K, top, present, term_gives}
 use Rattle.hepasync_top.proofs.Compiling.{kept_at, within_names}
@@ -142,3 +145,33 @@ outputs_have p node rows t i e values out known len at_i at_e is =
             ap (λ (vs : List ℕ). slice_index vs k) is ∙ get_or-between values i e k 0 below ∙ ap (λ n. slice_index values (n + k)) at_i in
         subst (λ (n : ℕ). K p rows (Variable x (top node) t) (Value n)) (sym v)
         (known (length node.inputs + k) x (output_at node k x at) (named_within x (declared_names node) (length node.inputs + k) (output_at node k x at)))
+
+-- ---- the same by equal lists
+
+pub makes_at : (qs rs : List Assignment) (cells ds : List (Option ℕ)) (old us new : List ℕ) → rs ≡ qs → ds ≡ cells → us ≡ old → MakesKnown rs ds us new → MakesKnown qs cells old new
+makes_at qs rs cells ds old us new e f g h =
+    subst (λ (ts : List Assignment). MakesKnown ts cells old new) e
+    (subst (λ (cs : List (Option ℕ)). MakesKnown rs cs old new) f
+    (subst (λ (vs : List ℕ). MakesKnown rs ds vs new) g h))
+
+-- a `Vec` whose elements are all written
+pub rewritten : {X Z : Type 0} (v : Vec X Z) (ws : List X) → length ws ≡ length v.items → (with_items v ws).items ≡ ws
+rewritten v ws e = take_at ws (drop (length ws) v.items) v.len (e ∙ sym v.ok.0)
+
+pub as_many : {X Z : Type 0} (v : Vec X Z) (ws : List X) → length (with_items v ws).items ≡ length v.items
+as_many v ws = sym (with_items v ws).ok.0 ∙ v.ok.0
+
+pub ready_with : (s r : Stepper) → r.inputs ≡ s.inputs → r.outputs ≡ s.outputs → r.equations ≡ s.equations → r.next ≡ s.next →
+    length r.values.items ≡ length s.values.items → length r.cells.items ≡ length s.cells.items → length r.following.items ≡ length s.following.items →
+    IsReady s → IsReady r
+ready_with s r i o q n v c f ready = record {
+  shape = omega (arith, ready.shape);
+  equations = subst (λ (qs : Vec Assignment Global). All (IsAssignmentInside (length r.cells.items) (length r.values.items)) qs.items) (sym q)
+      (subst (λ (k : ℕ). All (IsAssignmentInside k (length r.values.items)) s.equations.items) (sym c)
+      (subst (λ (k : ℕ). All (IsAssignmentInside (length s.cells.items) k) s.equations.items) (sym v) ready.equations));
+  next = subst (λ (ms : Vec Term Global). All (IsInside (length r.cells.items) (length r.values.items)) ms.items) (sym n)
+      (subst (λ (k : ℕ). All (IsInside k (length r.values.items)) s.next.items) (sym c)
+      (subst (λ (k : ℕ). All (IsInside (length s.cells.items) k) s.next.items) (sym v) ready.next));
+  cells = c ∙ ready.cells ∙ ap (λ (ms : Vec Term Global). length ms.items) (sym n);
+  following = f ∙ ready.following ∙ ap (λ (ms : Vec Term Global). length ms.items) (sym n);
+}

@@ -100,8 +100,8 @@ impl Stepper {
         ensures ready { IsReady self.new }
         ensures inputs { self.new.inputs ≡ self.old.inputs }
         ensures outputs { self.new.outputs ≡ self.old.outputs }
-        ensures gives { (p : Program) (rows : List (List ℕ)) → Stands p rows self.old → GivesLast p rows row.now out.new }
-        ensures stands { (p : Program) (rows : List (List ℕ)) → Stands p rows self.old → Stands p (rows ++ row.now ∷ []) self.new }
+        ensures steps { (p : Program) (rows : List (List ℕ)) → Stands p rows self.old →
+            GivesLast p rows row.now out.new × Stands p (rows ++ row.now ∷ []) self.new }
     {
         put_row(self.values.as_mut_slice(), row);
         assign(
