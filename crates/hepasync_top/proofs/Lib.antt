@@ -4,3 +4,4 @@ pub mod Known
 pub mod Body
 pub mod AtInstant
 pub mod AtStart
+pub mod RowByRow

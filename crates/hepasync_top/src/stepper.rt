@@ -4,6 +4,7 @@ ghost use Rattle.ept_reader.specs.Served.{IsServed};
 ghost use Rattle.hepasync_top.specs.Terms.{IsInside, term_value};
 ghost use Rattle.hepasync_top.specs.Stepping.{
   GivesLast,
+  GivesRows,
   IsAssignmentInside,
   IsReady,
   MakesKnown,
@@ -71,7 +72,8 @@ fn remember(next: &[Term], cells: &[Option<u32>], values: &[u32], following: &mu
 impl Stepper {
     pub(crate) fn new(alloc: Global, program: &Program) -> Result<Stepper, Memory>
         requires { IsServed program.now }
-        ensures { IfOk result (λ s. Stands program.now [] s) }
+        ensures stands { IfOk result (λ s. Stands program.now [] s) }
+        ensures rows { GivesRows program.now [] [] }
     {
         let node = &program.nodes.as_slice()[0];
         let variables = variables_of(alloc, node)?;
@@ -92,6 +94,20 @@ impl Stepper {
         })
     }
 
+    /// How many values a row has.
+    pub(crate) fn inputs(&self) -> usize
+        ensures { result ≡ self.now.inputs }
+    {
+        self.inputs
+    }
+
+    /// How many output values an instant has.
+    pub(crate) fn outputs(&self) -> usize
+        ensures { result ≡ self.now.outputs }
+    {
+        self.outputs
+    }
+
     /// Steps the equations in the order of the text.
     pub(crate) fn instant(&mut self, row: &[u32], out: &mut [u32])
         requires ready { IsReady self.old }
@@ -102,6 +118,8 @@ impl Stepper {
         ensures outputs { self.new.outputs ≡ self.old.outputs }
         ensures steps { (p : Program) (rows : List (List ℕ)) → Stands p rows self.old →
             GivesLast p rows row.now out.new × Stands p (rows ++ row.now ∷ []) self.new }
+        ensures rows { (p : Program) (rows outs : List (List ℕ)) → Stands p rows self.old → GivesRows p rows outs →
+            GivesRows p (rows ++ row.now ∷ []) (outs ++ out.new ∷ []) }
     {
         put_row(self.values.as_mut_slice(), row);
         assign(

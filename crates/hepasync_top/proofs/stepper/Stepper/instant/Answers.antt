@@ -8,6 +8,7 @@ use Rattle.hepasync_top.specs.declared.equations.Assignment.{Assignment}
 use Rattle.hepasync_top.specs.Terms.{declared_names, term_value}
 use Rattle.hepasync_top.specs.Stepping.{AreKnown, MakesKnown}
 use Rattle.hepasync_top.proofs.AtInstant.{makes_at, known_after, rewritten, as_many, ready_with, outputs_have, cells_after}
+use Rattle.hepasync_top.proofs.RowByRow.{more_rows}
 use Rattle.hepasync_top.proofs.stepper.Stepper.instant.Goals as goal
 
 pub returns-clause-steps : goal.returns-clause-steps
@@ -59,3 +60,7 @@ returns-clause-steps c = λ p rows h.
        equations = h.equations;
        cells = cells_after p node rows row next cells (with_items c.args.self.now.cells kept).items new h.cells known after;
      })
+
+pub returns-clause-rows : goal.returns-clause-rows
+returns-clause-rows c = λ p rows outs h g.
+    more_rows p rows outs c.args.row.now c.copy_from_slice-2.new.self g (returns-clause-steps c p rows h).0

@@ -16,8 +16,8 @@ compile_body-requires c =
     (c.as_slice-2.ensures ∙ c.in_ok-variables.ensures ∙ ap declared_names node_is)
     (c.as_slice-body.ensures ∙ ap (λ (n : Node). n.block.body) node_is)
 
-pub returns : goal.returns
-returns c =
+pub returns-clause-stands : goal.returns-clause-stands
+returns-clause-stands c =
     let node : Node = c.requires.node in
     let node_is : c.index-as_slice-0.result ≡ node =
         c.index-as_slice-0.is ∙ ap (λ (ns : List Node). get_or ns 0 c.index-as_slice-0.result) (c.as_slice.ensures ∙ c.requires.one) in
