@@ -1,5 +1,6 @@
 pub mod Kinds
 pub mod Tokens
+pub mod Cutting
 pub mod Grammar
 pub mod Text
 pub mod Reading

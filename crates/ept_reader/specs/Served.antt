@@ -1,5 +1,5 @@
 -- The programs that are run so far: one node of integers.
-use Rattle.std.specs.Prelude.{◌≡◌, ℕ, ℤ, true, Bool, List, [], ◌∷◌, ◌++◌, None, All, ◌⊎◌}
+use Rattle.std.specs.Prelude.{◌≡◌, ℤ, true, List, [], ◌∷◌, ◌++◌, None, All, ◌⊎◌}
 use Rattle.std.specs.List.{IsDistinct}
 use Rattle.hept_ast.specs.Texts.{Name, same, is_in, names}
 use Rattle.hept_ast.specs.declared.tree.Program.{Program}
@@ -8,7 +8,7 @@ use Rattle.hept_ast.specs.declared.tree.Decl.{Decl}
 use Rattle.hept_ast.specs.declared.tree.Equation.{Equation, out-Equation}
 use Rattle.hept_ast.specs.declared.tree.Equation.TheOpen.{Equation-F}
 use Rattle.hept_ast.specs.declared.tree.Expr.{Expr}
-use Rattle.hept_ast.specs.declared.tree.Form.{Form, out-Form}
+use Rattle.hept_ast.specs.declared.tree.Form.{out-Form}
 use Rattle.hept_ast.specs.declared.tree.Form.TheOpen.{Form-F}
 use Rattle.hept_ast.specs.declared.tree.Ty.TheVariants as ty
 use Rattle.hept_ast.specs.declared.tree.Plain.TheVariants as plain
