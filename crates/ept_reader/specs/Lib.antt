@@ -5,4 +5,6 @@ pub mod Grammar
 pub mod Text
 pub mod Reading
 pub mod Laws
+pub mod Spelling
 pub mod Served
+pub mod Serving
