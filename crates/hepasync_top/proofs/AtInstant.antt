@@ -53,7 +53,7 @@ inputs_known p node rows row values distinct len put = λ k x at among.
     let j : ℕ = place_in x (names node.inputs) in
     let lt : j < length (names node.inputs) = within_names x (names node.inputs) among in
     let same_place : place_in x (declared_names node) ≡ j =
-        ap (place_in x) (declared_parts node) ∙ place_in-within x (names node.inputs) (names (node.outputs ++ node.block.locals)) lt in
+    ap (place_in x) (declared_parts node) ∙ place_in-within x (names node.inputs) (names (node.outputs ++ node.block.locals)) lt in
     let k_is : k ≡ j = sym (place_of x (declared_names node) k distinct at) ∙ same_place in
     let in_row : j < length row = subst (λ (n : ℕ). j < n) (length-map node.inputs (λ (d : Decl). d.name) ∙ sym len) lt in
     let e : slice_index values k ≡ slice_index row j = ap (slice_index values) k_is ∙ put j in_row in
@@ -85,10 +85,10 @@ pub cells_after : (p : Program) (node : Node) (rows : List (List ℕ)) (row : Li
 cells_after p node rows row next cells after values holds known e = λ k m b at compiled.
     let v : ℕ = term_value cells values m in
     let longer : AllHold p node (rows ++ row ∷ []) (length rows) next cells =
-        λ k m b at compiled. holds_longer p node rows (row ∷ []) (length rows) b (slice_index_or cells k None) (holds k m b at compiled) in
+    λ k m b at compiled. holds_longer p node rows (row ∷ []) (length rows) b (slice_index_or cells k None) (holds k m b at compiled) in
     let here : slice_index_or after k None ≡ Some v =
-        ap (λ (cs : List (Option ℕ)). slice_index_or cs k None) e
-        ∙ get_or_from_slice_get (map (λ n. Some (term_value cells values n)) next) k (Some v) None (mapped_at (λ n. Some (term_value cells values n)) next k m at) in
+    ap (λ (cs : List (Option ℕ)). slice_index_or cs k None) e
+    ∙ get_or_from_slice_get (map (λ n. Some (term_value cells values n)) next) k (Some v) None (mapped_at (λ n. Some (term_value cells values n)) next k m at) in
     let t_is : suc (length rows) ≡ length (rows ++ row ∷ []) = omega (arith, length-append rows (row ∷ [])) in
     subst (λ (t : ℕ). Holds p node (rows ++ row ∷ []) t b (slice_index_or after k None)) t_is
     (v, here, term_gives p node (rows ++ row ∷ []) (length rows) next cells values longer known compiled)
@@ -118,9 +118,9 @@ output_at : (node : Node) (k : ℕ) (x : Name) → slice_get (names node.outputs
 output_at node k x h =
     let front : slice_get (names node.outputs ++ names node.block.locals) k ≡ Some x = kept_at (names node.outputs) (names node.block.locals) k x h in
     let all : slice_get (names (node.outputs ++ node.block.locals)) k ≡ Some x =
-        ap (λ (xs : List Name). slice_get xs k) (map-append (λ (d : Decl). d.name) node.outputs node.block.locals) ∙ front in
+    ap (λ (xs : List Name). slice_get xs k) (map-append (λ (d : Decl). d.name) node.outputs node.block.locals) ∙ front in
     let past : slice_get (names node.inputs ++ names (node.outputs ++ node.block.locals)) (length (names node.inputs) + k) ≡ Some x =
-        at_after (names node.inputs) (names (node.outputs ++ node.block.locals)) k x all in
+    at_after (names node.inputs) (names (node.outputs ++ node.block.locals)) k x all in
     ap (λ (xs : List Name). slice_get xs (length node.inputs + k)) (declared_parts node)
     ∙ ap (λ n. slice_get (names node.inputs ++ names (node.outputs ++ node.block.locals)) (n + k)) (sym (length-map node.inputs (λ (d : Decl). d.name))) ∙ past
 
@@ -132,17 +132,19 @@ outputs_have p node rows t i e values out known len at_i at_e is =
   where
     wide : e ≤ length values
     wide = let c : length (declared_names node) ≡ length node.inputs + (length node.outputs + length node.block.locals) = declared_count node in omega arith
+
     counts : length out ≡ length (names node.outputs)
     counts =
         let l : length (slice_range values i e) ≡ length node.outputs = omega (arith, length-between values i e, wide) in
         ap length is ∙ l ∙ sym (length-map node.outputs (λ (d : Decl). d.name))
+
     here : (k : ℕ) (x : Name) → slice_get (names node.outputs) k ≡ Some x → K p rows (Variable x (top node) t) (Value (slice_index out k))
     here k x at =
         let lt : k < length (names node.outputs) = slice_get_within (names node.outputs) k x at in
         let few : length (names node.outputs) ≡ length node.outputs = length-map node.outputs (λ (d : Decl). d.name) in
         let below : i + k < e = omega arith in
         let v : slice_index out k ≡ slice_index values (length node.inputs + k) =
-            ap (λ (vs : List ℕ). slice_index vs k) is ∙ get_or-between values i e k 0 below ∙ ap (λ n. slice_index values (n + k)) at_i in
+        ap (λ (vs : List ℕ). slice_index vs k) is ∙ get_or-between values i e k 0 below ∙ ap (λ n. slice_index values (n + k)) at_i in
         subst (λ (n : ℕ). K p rows (Variable x (top node) t) (Value n)) (sym v)
         (known (length node.inputs + k) x (output_at node k x at) (named_within x (declared_names node) (length node.inputs + k) (output_at node k x at)))
 

@@ -36,6 +36,7 @@ with_one known d y w h = λ x among. by_part x (one_of (is_in x known) (is_in x 
     same_as : (x : Name) (b : Bool) → same x y ≡ b → (b || false) ≡ true → is_in x d ≡ true
     same_as x true e g = subst (λ (z : Name). is_in z d ≡ true) (sym (same_names x y e)) h
     same_as x false e g = absurd (cc)
+
     by_part : (x : Name) → (is_in x known ≡ true) ⊎ (is_in x (y ∷ []) ≡ true) → is_in x d ≡ true
     by_part x (inl g) = w x g
     by_part x (inr g) = same_as x (same x y) refl g
@@ -61,10 +62,13 @@ served_equations p served = λ k e lt.
   where
     others : List Name
     others = names (served.node.outputs ++ served.node.block.locals)
+
     in_parts : (x : Name) → (is_in x (names served.node.inputs) || is_in x others) ≡ true → is_in x (declared_names served.node) ≡ true
     in_parts x h = ap (is_in x) (declared_parts served.node) ∙ list_any-append (same x) (names served.node.inputs) others ∙ h
+
     inputs : Within (names served.node.inputs) (declared_names served.node)
     inputs x h = in_parts x (in_first (is_in x (names served.node.inputs)) (is_in x others) h)
+
     defined : Within served.defined (declared_names served.node)
     defined x h = in_parts x (in_rest (is_in x (names served.node.inputs)) (is_in x others) (all_names (λ y. is_in y others ≡ true) served.defined x served.no_others h))
 

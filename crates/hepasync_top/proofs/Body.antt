@@ -98,6 +98,7 @@ set_known p node rows t v i y known values distinct place declared len vars here
   where
     at_place : slice_get (declared_names node) i ≡ Some y
     at_place = ap (λ j. slice_get (declared_names node) j) place ∙ named_at y (declared_names node) declared
+
     other : (k : ℕ) (x : Name) → k ≢ i → slice_get (declared_names node) k ≡ Some x → same x y ≡ false
     other k x ne at = by_name (same x y) refl
       where
@@ -107,6 +108,7 @@ set_known p node rows t v i y known values distinct place declared len vars here
             let g : place_in y (declared_names node) ≡ k = place_of y (declared_names node) k distinct (at ∙ ap Some f) in
             absurd (ne (sym g ∙ sym place))
         by_name false e = e
+
     by_place : (k : ℕ) (x : Name) → slice_get (declared_names node) k ≡ Some x → is_in x (known ++ y ∷ []) ≡ true → (b : Bool) → eqb k i ≡ b →
         K p rows (Variable x (top node) t) (Value (slice_index (slice_set values i v) k))
     by_place k x at among true e =
@@ -151,7 +153,7 @@ all_known p node rows t ts cells holds distinct {known = known} {es = e ∷ es} 
     let same_right : right2 ≡ right = cc in
     let v : ℕ = term_value cells values q.right in
     let right_gives : K p rows (Gives right [] (top node) t) (Value v) =
-        term_gives p node rows t ts cells values holds vars (subst (λ (r : Expr). StandsFor d ts q.right r) same_right stands known served) in
+    term_gives p node rows t ts cells values holds vars (subst (λ (r : Expr). StandsFor d ts q.right r) same_right stands known served) in
     let here : K p rows (Variable y (top node) t) (Value v) = head_known p node rows t v y rest e es place right leads h right_gives in
     let place_y : q.variable ≡ place_in y d = at_q ∙ ap (λ z. place_in z d) same_y in
     all_known p node rows t ts cells holds distinct more qs (slice_set values q.variable v) others
@@ -171,20 +173,26 @@ makes_known qs cells old p served rows t ts holds assigns len vars = λ k x at a
   where
     node : Node
     node = served.node
+
     others : List Name
     others = names (node.outputs ++ node.block.locals)
+
     apart_parts : IsDistinct same (names node.inputs ++ others)
     apart_parts = subst (λ (xs : List Name). IsDistinct same xs) (declared_parts node) served.different
+
     other : (x : Name) → is_in x served.defined ≡ true → is_in x others ≡ true
     other x h = all_names (λ y. is_in y others ≡ true) served.defined x served.no_others h
+
     declared : (x : Name) → is_in x served.defined ≡ true → is_in x (declared_names node) ≡ true
     declared x h = ap (is_in x) (declared_parts node) ∙ list_any-append (same x) (names node.inputs) others
         ∙ in_rest (is_in x (names node.inputs)) (is_in x others) (other x h)
+
     leads : Leads p node rows t served.defined node.block.body
     leads x v h g = by_definition p node rows t v x (not_in_front x (names node.inputs) others apart_parts (other x h)) g
+
     input_or_defined : (k : ℕ) (x : Name) → slice_get (declared_names node) k ≡ Some x → (is_in x (names node.inputs) ≡ true) ⊎ (is_in x served.defined ≡ true)
     input_or_defined k x at =
         let h : (is_in x (names node.inputs) || is_in x others) ≡ true =
-            sym (list_any-append (same x) (names node.inputs) others) ∙ ap (is_in x) (sym (declared_parts node)) ∙ named_within x (declared_names node) k at in
+        sym (list_any-append (same x) (names node.inputs) others) ∙ ap (is_in x) (sym (declared_parts node)) ∙ named_within x (declared_names node) k at in
         elim (one_of (is_in x (names node.inputs)) (is_in x others) h)
         [ inl a ↦ inl a | inr b ↦ inr (all_names (λ y. is_in y served.defined ≡ true) others x served.each b) ]

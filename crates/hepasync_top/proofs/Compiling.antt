@@ -170,8 +170,10 @@ pushed_stands d all with_cell e a b n h s stands w each = λ k m at. by_place k 
   where
     more : Extends all with_cell
     more = (n ∷ [], w)
+
     compiled : Compiled d all d n b
     compiled = stands d (served_operands d d e a b s (fby_form e a b h)).1
+
     by_place : (k : ℕ) (m : Term) → (slice_get all k ≡ Some m) ⊎ (n ≡ m) → (b : Expr) × Compiled d with_cell d m b
     by_place k m (inl at) = each_more d all with_cell more each k m at
     by_place k m (inr same) = (b, subst (λ (x : Term). Compiled d with_cell d x b) same (extended d all with_cell d n b more compiled))

@@ -5,3 +5,12 @@ pub mod Body
 pub mod AtInstant
 pub mod AtStart
 pub mod RowByRow
+pub mod Digits
+pub mod Ends
+pub mod LineSteps
+pub mod LineWords
+pub mod NextOutputs
+pub mod RowLine
+pub mod Rows
+pub mod SinkBytes
+pub mod Statuses

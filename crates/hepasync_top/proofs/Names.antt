@@ -42,9 +42,10 @@ pub named_at : (x : Name) (xs : List Name) → is_in x xs ≡ true → slice_get
 named_at x [] h = absurd (cc)
 named_at x (y ∷ xs) h =
     let step : (b : Bool) → same x y ≡ b → slice_get (y ∷ xs) (cond b 0 (place_in x xs + 1)) ≡ Some x =
-        λ b. elim b as (λ c. same x y ≡ c → slice_get (y ∷ xs) (cond c 0 (place_in x xs + 1)) ≡ Some x)
-        [ true ↦ λ e. ap Some (sym (same_names x y e))
-        | false ↦ λ e. later_at y xs (place_in x xs) x (named_at x xs (later_in (same x y) (is_in x xs) e h)) ] in
+    λ b. elim b as (λ c. same x y ≡ c → slice_get (y ∷ xs) (cond c 0 (place_in x xs + 1)) ≡ Some x) [
+      | true ↦ λ e. ap Some (sym (same_names x y e))
+      | false ↦ λ e. later_at y xs (place_in x xs) x (named_at x xs (later_in (same x y) (is_in x xs) e h))
+    ] in
     step (same x y) refl
 
 -- ---- names that all differ

@@ -35,5 +35,5 @@ pub more_rows : (p : Program) (rows outs : List (List ℕ)) (row out : List ℕ)
 more_rows p rows outs row out h g =
     let e : g.0 ≡ h.0 = cc in
     let last : HaveValues (setting p) (rows ++ row ∷ []) (output_questions (Written 0 h.0) (length rows)) out =
-        subst (λ (node : Node). HaveValues (setting p) (rows ++ row ∷ []) (output_questions (Written 0 node) (length rows)) out) e g.2 in
+    subst (λ (node : Node). HaveValues (setting p) (rows ++ row ∷ []) (output_questions (Written 0 node) (length rows)) out) e g.2 in
     (h.0, h.1, one_more (setting p) rows row out (Written 0 h.0) 0 (length rows) rows outs (omega arith) h.2 last)

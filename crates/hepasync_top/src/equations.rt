@@ -43,12 +43,8 @@ impl Term {
         match self {
             Term::Number(n) => *n,
             Term::Variable(i) => values[*i],
-            Term::Add(a, b) => a
-                .value(cells, values)
-                .wrapping_add(b.value(cells, values)),
-            Term::Sub(a, b) => a
-                .value(cells, values)
-                .wrapping_sub(b.value(cells, values)),
+            Term::Add(a, b) => a.value(cells, values).wrapping_add(b.value(cells, values)),
+            Term::Sub(a, b) => a.value(cells, values).wrapping_sub(b.value(cells, values)),
             Term::Fby(cell, first) => match cells[*cell] {
                 Some(kept) => kept,
                 None => first.value(cells, values),

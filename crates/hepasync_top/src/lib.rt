@@ -1,5 +1,16 @@
-//! A program run on a trace.
+//! The top call: what a run of a program on a trace writes, and how it ends.
 #![tactic(auto)]
 
+mod end;
 mod equations;
+mod machine;
+mod output_text;
+mod row_text;
 mod stepper;
+mod top;
+mod words;
+
+pub use top::{RunEnd, run};
+
+#[cfg(test)]
+mod tests;

@@ -17,9 +17,9 @@ loop-equation-preserved c =
     let i : ℕ = c.loop-equation.equation-index in
     let e : Equation = c.equation-item.result in
     let served : IsServedEquation c.args.variables.now e =
-        subst (λ (x : Equation). IsServedEquation c.args.variables.now x) (sym c.equation-item.is) (c.requires i e c.loop-equation-test.true) in
+    subst (λ (x : Equation). IsServedEquation c.args.variables.now x) (sym c.equation-item.is) (c.requires i e c.loop-equation-test.true) in
     let longer : take (i + 1) body ≡ take i body ++ e ∷ [] =
-        take_more body i e c.loop-equation-test.true ∙ ap (λ (x : Equation). take i body ++ x ∷ []) (sym c.equation-item.is) in
+    take_more body i e c.loop-equation-test.true ∙ ap (λ (x : Equation). take i body ++ x ∷ []) (sym c.equation-item.is) in
     record {
       assigns = assigns_more c.args.variables.now c.loop-equation.next.items c.compile_equation.new.next.items c.in_ok-assignment.assignment e
           c.loop-equation.all.items c.push.new.items.items (take i body) (take (i + 1) body)

@@ -8,7 +8,7 @@ use Rattle.hepasync_top.proofs.stepper.assign.Goals as goal
 pub returns : goal.returns
 returns c =
     let e : c.loop-equation.values ≡ fold (assigned c.args.cells.now) c.args.values.now c.args.equations.now =
-        c.loop-equation.invariant
-        ∙ ap (λ (qs : List Assignment). fold (assigned c.args.cells.now) c.args.values.now qs) (take_all c.loop-equation.equation-index c.args.equations.now c.loop-equation-test.false) in
+    c.loop-equation.invariant
+    ∙ ap (λ (qs : List Assignment). fold (assigned c.args.cells.now) c.args.values.now qs) (take_all c.loop-equation.equation-index c.args.equations.now c.loop-equation-test.false) in
     subst (λ (vs : List ℕ). MakesKnown c.args.equations.now c.args.cells.now c.args.values.now vs) (sym e)
     (makes_known c.args.equations.now c.args.cells.now c.args.values.now)

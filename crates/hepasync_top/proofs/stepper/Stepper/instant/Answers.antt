@@ -26,40 +26,44 @@ returns-clause-steps c = λ p rows h.
     let newly_wide : length new ≡ length old = search rules in
     let same_values : c.as_mut_slice-2.result.now ≡ old = c.as_mut_slice-2.ensures.value ∙ rewritten c.args.self.now.values old as_wide in
     let all_new : (with_items (with_items c.args.self.now.values old) new).items ≡ new =
-        rewritten (with_items c.args.self.now.values old) new (newly_wide ∙ sym (ap length (rewritten c.args.self.now.values old as_wide))) in
+    rewritten (with_items c.args.self.now.values old) new (newly_wide ∙ sym (ap length (rewritten c.args.self.now.values old as_wide))) in
     let made : MakesKnown qs cells old new =
-        makes_at qs c.as_slice.result.now cells c.as_slice-2.result.now old c.as_mut_slice-2.result.now new same_equations same_cells same_values c.assign.ensures in
+    makes_at qs c.as_slice.result.now cells c.as_slice-2.result.now old c.as_mut_slice-2.result.now new same_equations same_cells same_values c.assign.ensures in
     let known : AreKnown p node (rows ++ row ∷ []) (length rows) (declared_names node) new =
-        known_after p h.served rows row next qs cells old new (c.requires.row ∙ h.inputs) c.put_row.ensures (as_wide ∙ h.values) h.cells h.equations made in
+    known_after p h.served rows row next qs cells old new (c.requires.row ∙ h.inputs) c.put_row.ensures (as_wide ∙ h.values) h.cells h.equations made in
     let taken : c.copy_from_slice-2.new.self ≡ slice_range new c.args.self.now.inputs (c.args.self.now.inputs + c.args.self.now.outputs) =
-        c.copy_from_slice-2.ensures.after ∙ ap (λ (vs : List ℕ). slice_range vs c.args.self.now.inputs (c.args.self.now.inputs + c.args.self.now.outputs))
-        (c.deref.ensures.value ∙ all_new) in
+    c.copy_from_slice-2.ensures.after ∙ ap (λ (vs : List ℕ). slice_range vs c.args.self.now.inputs (c.args.self.now.inputs + c.args.self.now.outputs))
+    (c.deref.ensures.value ∙ all_new) in
     let kept : List (Option ℕ) = c.copy_from_slice.new.self in
     let remembered : List (Option ℕ) = c.remember.new.following in
     let as_many_kept : length kept ≡ length cells = search rules in
     let as_many_remembered : length remembered ≡ length c.args.self.now.following.items = search rules in
     let after : (with_items c.args.self.now.cells kept).items ≡ map (λ m. Some (term_value cells new m)) next =
-        rewritten c.args.self.now.cells kept as_many_kept
-        ∙ c.copy_from_slice.ensures.after ∙ c.as_slice-6.ensures.value
-        ∙ rewritten c.args.self.now.following remembered as_many_remembered
-        ∙ c.remember.ensures
-        ∙ ap (λ (cs : List (Option ℕ)). map (λ m. Some (term_value cs c.as_slice-5.result.now m)) c.as_slice-3.result.now) c.as_slice-4.ensures.value
-        ∙ ap (λ (vs : List ℕ). map (λ m. Some (term_value cells vs m)) c.as_slice-3.result.now) (c.as_slice-5.ensures.value ∙ all_new)
-        ∙ ap (λ (ms : List Term). map (λ m. Some (term_value cells new m)) ms) c.as_slice-3.ensures.value in
-    ((node, h.served.one,
-      outputs_have p node (rows ++ row ∷ []) (length rows) c.args.self.now.inputs (c.args.self.now.inputs + c.args.self.now.outputs) new c.copy_from_slice-2.new.self
-      known (newly_wide ∙ as_wide ∙ h.values) h.inputs (ap (λ n. c.args.self.now.inputs + n) h.outputs) taken),
-     record {
-       ready = ready_with c.args.self.now _ refl refl refl refl
-           (as_many (with_items c.args.self.now.values old) new ∙ as_many c.args.self.now.values old)
-           (as_many c.args.self.now.cells kept) (as_many c.args.self.now.following remembered) h.ready;
-       served = h.served;
-       inputs = h.inputs;
-       outputs = h.outputs;
-       values = as_many (with_items c.args.self.now.values old) new ∙ as_many c.args.self.now.values old ∙ h.values;
-       equations = h.equations;
-       cells = cells_after p node rows row next cells (with_items c.args.self.now.cells kept).items new h.cells known after;
-     })
+    rewritten c.args.self.now.cells kept as_many_kept
+    ∙ c.copy_from_slice.ensures.after ∙ c.as_slice-6.ensures.value
+    ∙ rewritten c.args.self.now.following remembered as_many_remembered
+    ∙ c.remember.ensures
+    ∙ ap (λ (cs : List (Option ℕ)). map (λ m. Some (term_value cs c.as_slice-5.result.now m)) c.as_slice-3.result.now) c.as_slice-4.ensures.value
+    ∙ ap (λ (vs : List ℕ). map (λ m. Some (term_value cells vs m)) c.as_slice-3.result.now) (c.as_slice-5.ensures.value ∙ all_new)
+    ∙ ap (λ (ms : List Term). map (λ m. Some (term_value cells new m)) ms) c.as_slice-3.ensures.value in (
+      (
+        node,
+        h.served.one,
+        outputs_have p node (rows ++ row ∷ []) (length rows) c.args.self.now.inputs (c.args.self.now.inputs + c.args.self.now.outputs) new c.copy_from_slice-2.new.self
+            known (newly_wide ∙ as_wide ∙ h.values) h.inputs (ap (λ n. c.args.self.now.inputs + n) h.outputs) taken,
+      ),
+      record {
+        ready = ready_with c.args.self.now _ refl refl refl refl
+            (as_many (with_items c.args.self.now.values old) new ∙ as_many c.args.self.now.values old)
+            (as_many c.args.self.now.cells kept) (as_many c.args.self.now.following remembered) h.ready;
+        served = h.served;
+        inputs = h.inputs;
+        outputs = h.outputs;
+        values = as_many (with_items c.args.self.now.values old) new ∙ as_many c.args.self.now.values old ∙ h.values;
+        equations = h.equations;
+        cells = cells_after p node rows row next cells (with_items c.args.self.now.cells kept).items new h.cells known after;
+      },
+    )
 
 pub returns-clause-rows : goal.returns-clause-rows
 returns-clause-rows c = λ p rows outs h g.

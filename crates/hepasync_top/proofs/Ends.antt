@@ -1,0 +1,95 @@
+-- How far the turns have come, and how they end.
+use Rattle.std.proofs.Common.{◌≡◌, ℕ, ◌+◌, ◌<◌, ◌≤◌, suc, zero, List, [], ◌∷◌, ◌++◌, length, take, map, Option, Some, None, Result, Ok, Err, sym, refl, ap, ◌∙◌, subst, arith, rules, length-append, append_assoc}
+use Rattle.std.specs.Bool.{⊤}
+use Rattle.std.specs.List.{flat_map}
+use Rattle.std.specs.Io.KnownBytes.{Appends, Keeps, IsAtEnd}
+use Rattle.std.proofs.lemmas.Grind.{flat_map-append}
+use Rattle.std.proofs.lemmas.List.{append-nil}
+use Rattle.hept_ast.specs.declared.tree.Program.{Program}
+use Rattle.hept_ast.specs.Laws.{ErasedKeepsOutputs}
+use Rattle.hept_io.specs.Lines.{to_come}
+use Rattle.hepasync_top.specs.OutputText.{row_line, output_text, AppendsPart}
+use Rattle.hepasync_top.specs.Outputs.{ProgramOutputs, input_count}
+use Rattle.hepasync_top.specs.Turns.{LosesRows, AtMost, NextIsBad, HasNext, EndsAfter, EndsInPart, RunEnds, ended, bad_row, limit_reached, read_fault, write_fault}
+use Rattle.hepasync_top.specs.Machine.{HasDone, Turns, TurnsEnd, EndsHere}
+use Rattle.hepasync_top.specs.declared.machine.Machine.{Machine}
+use Rattle.hepasync_top.specs.declared.end.End.{End}
+use Rattle.hepasync_top.specs.declared.end.End.TheVariants.{Ended, Refused, Usage, File, BadRow, Limit, ReadFault, WriteFault, Memory}
+use Rattle.hepasync_top.proofs.NextOutputs.{erased_outputs}
+use Rattle.hepasync_top.proofs.SinkBytes.{appends_both, appends_kept, appends_none, keeps_same}
+use Rattle.hepasync_top.proofs.LineSteps.{loses_both, loses_none, left_of_coming}
+
+-- n rows counted
+pub record SoFar (p : Program) (n : ℕ) (coming held : Option (List ℕ)) (m : Machine) (rest now : Option (List ℕ)) : Type 0 where
+  pub rows : List (List ℕ)
+  pub outs : List (List ℕ)
+  pub count : length rows ≡ n
+  pub done : HasDone p m rows outs
+  pub read : LosesRows (input_count p) coming rows rest
+  pub written : Appends held now (output_text outs)
+
+pub none_yet : (p : Program) (coming held : Option (List ℕ)) (m : Machine) → HasDone p m [] [] → SoFar p 0 coming held m coming held
+none_yet p coming held m h = record { rows = []; outs = []; count = refl; done = h; read = loses_none (input_count p) coming; written = appends_none held }
+
+text_of_more : (outs : List (List ℕ)) (out : List ℕ) → output_text (outs ++ out ∷ []) ≡ output_text outs ++ row_line out
+text_of_more outs out = flat_map-append row_line outs (out ∷ []) ∙ ap (λ text. output_text outs ++ text) (append-nil (row_line out))
+
+pub one_counted : (p : Program) (n : ℕ) (coming held : Option (List ℕ)) (m new : Machine) (rest now left later : Option (List ℕ)) (u : Unit {0}) →
+    (s : SoFar p n coming held m rest now) → Turns p s.rows s.outs rest now (Ok u) new left later → SoFar p (n + 1) coming held new (to_come new.reader left) later
+one_counted p n coming held m new rest now left later u s (row, out, done, read, written) = record {
+  rows = s.rows ++ row ∷ [];
+  outs = s.outs ++ out ∷ [];
+  count = omega (arith, length-append s.rows (row ∷ []), s.count);
+  done = done;
+  read = loses_both (input_count p) coming rest (to_come new.reader left) s.rows (row ∷ []) s.read read;
+  written = subst (Appends held later) (sym (text_of_more s.outs out)) (appends_both held now later (output_text s.outs) (row_line out) s.written written);
+}
+
+ends : ErasedKeepsOutputs → (p : Program) (n : ℕ) (coming held : Option (List ℕ)) (m : Machine) (rest now left later : Option (List ℕ)) (Why : ℕ → Option (List ℕ) → Type 0) →
+    (s : SoFar p n coming held m rest now) → Keeps now later → AtMost rest left → Why (length s.rows) rest → EndsAfter p coming held left later Why
+ends law p n coming held m rest now left later Why s k within why = record {
+  rows = s.rows;
+  outs = s.outs;
+  rest = rest;
+  counted = record { read = s.read; outputs = erased_outputs p s.rows s.outs law s.done.outputs; written = appends_kept held now later (output_text s.outs) s.written k };
+  within = within;
+  why = why;
+}
+
+-- a turn that doesn't count ends the run
+pub stops : ErasedKeepsOutputs → (p : Program) (limit n : ℕ) (coming held : Option (List ℕ)) (m new : Machine) (rest now left later : Option (List ℕ)) (end : End) →
+    (s : SoFar p n coming held m rest now) → Turns p s.rows s.outs rest now (Err end) new left later → TurnsEnd p limit coming held end left later
+stops law p limit n coming held m new rest now left later Ended s h = ended (ends law p n coming held m rest now left later (λ n rest. IsAtEnd rest) s h.2 h.1 h.0)
+stops law p limit n coming held m new rest now left later BadRow s h = bad_row (ends law p n coming held m rest now left later (λ n rest. NextIsBad (input_count p) rest) s h.2 h.1 h.0)
+stops law p limit n coming held m new rest now left later ReadFault s h = read_fault (ends law p n coming held m rest now left later (λ n rest. ⊤) s h.1 h.0 tt)
+stops law p limit n coming held m new rest now left later WriteFault s (row, out, outputs, read, part) = write_fault (record {
+  rows = s.rows;
+  outs = s.outs;
+  row = row;
+  out = out;
+  rest = to_come new.reader left;
+  read = loses_both (input_count p) coming rest (to_come new.reader left) s.rows (row ∷ []) s.read read;
+  outputs = erased_outputs p (s.rows ++ row ∷ []) (s.outs ++ out ∷ []) law outputs;
+  taken = part.0;
+  part = part.1;
+  written = appends_both held now later (output_text s.outs) (take part.0 (row_line out)) s.written part.2;
+  within = left_of_coming new.reader.pending left;
+})
+stops law p limit n coming held m new rest now left later Refused s h = absurd h
+stops law p limit n coming held m new rest now left later Usage s h = absurd h
+stops law p limit n coming held m new rest now left later File s h = absurd h
+stops law p limit n coming held m new rest now left later Limit s h = absurd h
+stops law p limit n coming held m new rest now left later Memory s h = absurd h
+
+-- the limit's rows counted
+pub at_limit : ErasedKeepsOutputs → (p : Program) (limit n : ℕ) (coming held : Option (List ℕ)) (m : Machine) (rest now left : Option (List ℕ)) (end : End) →
+    (s : SoFar p n coming held m rest now) → n ≡ limit → EndsHere rest end left → TurnsEnd p limit coming held end left now
+at_limit law p limit n coming held m rest now left Ended s e h = ended (ends law p n coming held m rest now left now (λ n rest. IsAtEnd rest) s (keeps_same now) h.1 h.0)
+at_limit law p limit n coming held m rest now left Limit s e h = limit_reached (ends law p n coming held m rest now left now (λ k rest. (k ≡ limit) × HasNext rest) s (keeps_same now) h.1 (s.count ∙ e, h.0))
+at_limit law p limit n coming held m rest now left ReadFault s e h = read_fault (ends law p n coming held m rest now left now (λ n rest. ⊤) s (keeps_same now) h tt)
+at_limit law p limit n coming held m rest now left BadRow s e h = absurd h
+at_limit law p limit n coming held m rest now left WriteFault s e h = absurd h
+at_limit law p limit n coming held m rest now left Refused s e h = absurd h
+at_limit law p limit n coming held m rest now left Usage s e h = absurd h
+at_limit law p limit n coming held m rest now left File s e h = absurd h
+at_limit law p limit n coming held m rest now left Memory s e h = absurd h

@@ -1,0 +1,77 @@
+-- What a call of a line reader leaves to come, and what is read from it.
+use Rattle.std.proofs.Common.{◌≡◌, ◌≢◌, ℕ, ◌+◌, ◌-◌, ◌<◌, ◌≤◌, suc, true, false, ◌⊎◌, inl, inr, ⊎_elim, List, [], ◌∷◌, ◌++◌, length, take, drop, map, Option, Some, None, Result, Ok, Err, sym, refl, ap, ◌∙◌, subst, arith, rules, length-append, append_assoc}
+use Rattle.std.specs.Io.KnownBytes.{Appends, Keeps, Consumes, IsAtEnd, prepend_known}
+use Rattle.hept_io.specs.Lines.{Reading, to_come, lines_of, IsFirstLine, FirstIsTooLong, LosesLine, GivesLine, Moves}
+use Rattle.hept_io.specs.declared.lines.LineFault.{LineFault}
+use Rattle.std.specs.Borrow.{Bor}
+use Rattle.std.proofs.lemmas.List.{map-append}
+use Rattle.hepasync_top.proofs.NextOutputs.{written_back}
+use Rattle.hepasync_top.specs.RowText.{row_text}
+use Rattle.hepasync_top.specs.Turns.{TakesRows, LosesRows, AtMost, IsBadLine, NextIsBad, HasNext}
+use Rattle.hepasync_top.specs.declared.row_text.RowFault.{RowFault}
+
+shorter_rest : (bytes line rest : List ℕ) → IsFirstLine bytes line rest → length rest + 1 ≤ length bytes
+shorter_rest bytes line rest h = ⊎_elim
+    (λ e. omega (arith, ap length e, length-append line (10 ∷ rest)))
+    (λ e. omega (arith, ap length e.0, ap length e.1, e.2))
+    h.cut
+
+takes_one : (inputs : ℕ) (bytes line rest row : List ℕ) → IsFirstLine bytes line rest → row_text inputs line ≡ Ok row → TakesRows inputs bytes (row ∷ []) rest
+takes_one inputs bytes line rest row h r = record {
+  lines = line ∷ [];
+  cut = h.lines;
+  read = ap (λ read. read ∷ []) r;
+  shorter = shorter_rest bytes line rest h;
+}
+
+pub loses_one : (inputs : ℕ) (coming rest : Option (List ℕ)) (line row : List ℕ) → LosesLine coming line rest → row_text inputs line ≡ Ok row → LosesRows inputs coming (row ∷ []) rest
+loses_one inputs None rest line row h r = tt
+loses_one inputs (Some bytes) None line row h r = absurd h
+loses_one inputs (Some bytes) (Some rest) line row h r = takes_one inputs bytes line rest row h r
+
+pub next_is_bad : (inputs : ℕ) (coming rest : Option (List ℕ)) (line : List ℕ) (e : RowFault) → LosesLine coming line rest → row_text inputs line ≡ Err e → NextIsBad inputs coming
+next_is_bad inputs None rest line e h r = tt
+next_is_bad inputs (Some bytes) None line e h r = absurd h
+next_is_bad inputs (Some bytes) (Some rest) line e h r = record { line = line; others = lines_of rest; lines = h.lines; fault = inl (e, r) }
+
+pub left_of_line : (coming : Option (List ℕ)) (pending : List ℕ) (left : Option (List ℕ)) (line : List ℕ) → LosesLine coming line (prepend_known pending left) → AtMost coming left
+left_of_line None pending left line h = tt
+left_of_line (Some bytes) pending None line h = absurd h
+left_of_line (Some bytes) pending (Some left) line h = omega (arith, shorter_rest bytes line (pending ++ left) h, length-append pending left)
+
+pub given : (old : Reading) (left : Option (List ℕ)) (answer : Result (Option (Bor (List ℕ))) LineFault) (line : Bor (List ℕ)) (new : Reading) (rest : Option (List ℕ)) →
+    answer ≡ Ok (Some line) → Moves old left answer new rest → GivesLine old left line.now new rest
+given old left answer line new rest e h = subst (λ a. Moves old left a new rest) e h
+
+-- ---- several turns
+
+loses_lines : (inputs : ℕ) (a b c : List ℕ) (rows more : List (List ℕ)) → TakesRows inputs a rows b → TakesRows inputs b more c → TakesRows inputs a (rows ++ more) c
+loses_lines inputs a b c rows more h k = record {
+  lines = h.lines ++ k.lines;
+  cut = h.cut ∙ ap (λ ls. h.lines ++ ls) k.cut ∙ sym (append_assoc h.lines k.lines (lines_of c));
+  read = map-append (row_text inputs) h.lines k.lines ∙ ap (λ read. read ++ map (row_text inputs) k.lines) h.read ∙ ap (λ read. map Ok rows ++ read) k.read ∙ sym (map-append Ok rows more);
+  shorter = omega (arith, h.shorter, k.shorter, length-append rows more);
+}
+
+pub loses_both : (inputs : ℕ) (a b c : Option (List ℕ)) (rows more : List (List ℕ)) → LosesRows inputs a rows b → LosesRows inputs b more c → LosesRows inputs a (rows ++ more) c
+loses_both inputs None b c rows more h k = tt
+loses_both inputs (Some a) None c rows more h k = absurd h
+loses_both inputs (Some a) (Some b) None rows more h k = absurd k
+loses_both inputs (Some a) (Some b) (Some c) rows more h k = loses_lines inputs a b c rows more h k
+
+pub loses_none : (inputs : ℕ) (a : Option (List ℕ)) → LosesRows inputs a [] a
+loses_none inputs None = tt
+loses_none inputs (Some a) = record { lines = []; cut = refl; read = refl; shorter = omega arith }
+
+pub left_of_coming : (pending : List ℕ) (left : Option (List ℕ)) → AtMost (prepend_known pending left) left
+left_of_coming pending None = tt
+left_of_coming pending (Some left) = omega (arith, length-append pending left)
+
+-- the same loss, of a row that was written into a whole vector
+pub loses_row : (n inputs len : ℕ) (coming : Option (List ℕ)) (old new : List ℕ) (r s : Reading) (left : Option (List ℕ)) →
+    n ≡ inputs → len ≡ length new → s ≡ r → LosesRows n coming (new ∷ []) (to_come r left) →
+    LosesRows inputs coming (take len (new ++ drop (length new) old) ∷ []) (to_come s left)
+loses_row n inputs len coming old new r s left count whole same h =
+    let a = subst (λ (k : ℕ). LosesRows k coming (new ∷ []) (to_come r left)) count h in
+    let b = subst (λ (row : List ℕ). LosesRows inputs coming (row ∷ []) (to_come r left)) (sym (written_back old new len whole)) a in
+    subst (λ (reader : Reading). LosesRows inputs coming (take len (new ++ drop (length new) old) ∷ []) (to_come reader left)) (sym same) b

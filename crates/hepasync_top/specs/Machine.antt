@@ -1,0 +1,67 @@
+-- What is made before the trace is first read, and what its turns do.
+use Rattle.std.specs.Prelude.{◌≡◌, ℕ, ◌<◌, ◌^◌, false, List, [], ◌∷◌, ◌++◌, length, vec_len, Option, Result, Ok, Err, IfSome}
+use Rattle.std.specs.Io.KnownBytes.{Appends, Keeps, IsAtEnd}
+use Rattle.hept_ast.specs.declared.tree.Program.{Program}
+use Rattle.hept_io.specs.Outside.{Files}
+use Rattle.hept_io.specs.Lines.{Reading, to_come}
+use Rattle.hepasync_top.specs.OutputText.{row_line, AppendsPart}
+use Rattle.hepasync_top.specs.Outputs.{input_count}
+use Rattle.hepasync_top.specs.Run.{IsProgramFile}
+use Rattle.hepasync_top.specs.Stepping.{GivesRows, IsReady, Stands}
+use Rattle.hepasync_top.specs.Turns.{LosesRows, AtMost, NextIsBad, HasNext, RunEnds}
+use Rattle.hepasync_top.specs.End.{status_of}
+use Rattle.hepasync_top.specs.declared.machine.Machine.{Machine}
+use Rattle.hepasync_top.specs.declared.end.End.{End}
+use Rattle.hepasync_top.specs.declared.end.End.TheVariants.{Ended, Refused, Usage, File, BadRow, Limit, ReadFault, WriteFault, Memory}
+
+-- it may do a turn
+pub record CanTurn (m : Machine) : Type 0 where
+  pub goes_on : m.reader.is_spent ≡ false
+  pub ready : IsReady m.stepper
+  pub row : vec_len m.row ≡ m.stepper.inputs
+  pub few : m.stepper.inputs < 2 ^ 32
+  pub values : vec_len m.values ≡ m.stepper.outputs
+  pub writer : m.writer ≡ m.stepper.outputs
+
+-- it has done the instants of these rows of a program, which have these outputs
+pub record HasDone (p : Program) (m : Machine) (rows outs : List (List ℕ)) : Type 0 where
+  pub stands : Stands p rows m.stepper
+  pub outputs : GivesRows p rows outs
+
+-- what a read of the next line into a row comes to
+abbrev pub ReadsRow : (inputs : ℕ) → Reading → (left : Option (List ℕ)) → Result (Unit {0}) End → Reading → (rest : Option (List ℕ)) → (row : List ℕ) → Type 0
+ReadsRow inputs old left (Ok u) new rest row = (new.is_spent ≡ false) × LosesRows inputs (to_come old left) (row ∷ []) (to_come new rest)
+ReadsRow inputs old left (Err Ended) new rest row = IsAtEnd (to_come old left) × AtMost (to_come old left) rest
+ReadsRow inputs old left (Err BadRow) new rest row = NextIsBad inputs (to_come old left) × AtMost (to_come old left) rest
+ReadsRow inputs old left (Err ReadFault) new rest row = AtMost (to_come old left) rest
+ReadsRow inputs old left (Err other) new rest row = ⊥
+
+-- what the request for one more line comes to
+abbrev pub EndsHere : (coming : Option (List ℕ)) → End → (left : Option (List ℕ)) → Type 0
+EndsHere coming Ended left = IsAtEnd coming × AtMost coming left
+EndsHere coming Limit left = HasNext coming × AtMost coming left
+EndsHere coming ReadFault left = AtMost coming left
+EndsHere coming other left = ⊥
+
+-- what a turn comes to, after some rows
+abbrev pub Turns : Program → (rows outs : List (List ℕ)) → (coming held : Option (List ℕ)) → Result (Unit {0}) End → Machine → (left now : Option (List ℕ)) → Type 0
+Turns p rows outs coming held (Ok u) m left now = (row out : List ℕ) × HasDone p m (rows ++ row ∷ []) (outs ++ out ∷ [])
+    × LosesRows (input_count p) coming (row ∷ []) (to_come m.reader left) × Appends held now (row_line out)
+Turns p rows outs coming held (Err Ended) m left now = IsAtEnd coming × AtMost coming left × Keeps held now
+Turns p rows outs coming held (Err BadRow) m left now = NextIsBad (input_count p) coming × AtMost coming left × Keeps held now
+Turns p rows outs coming held (Err ReadFault) m left now = AtMost coming left × Keeps held now
+Turns p rows outs coming held (Err WriteFault) m left now = (row out : List ℕ) × GivesRows p (rows ++ row ∷ []) (outs ++ out ∷ [])
+    × LosesRows (input_count p) coming (row ∷ []) (to_come m.reader left) × AppendsPart held now (row_line out)
+Turns p rows outs coming held (Err other) m left now = ⊥
+
+-- how the turns end, where at most `limit` rows may count
+abbrev pub TurnsEnd : Program → (limit : ℕ) → (coming held : Option (List ℕ)) → End → (left now : Option (List ℕ)) → Type 0
+TurnsEnd p limit coming held end left now = RunEnds p limit coming held left now (status_of end)
+
+-- It has done nothing yet. Where the store tells its files, its program is the one that the words name.
+pub record IsFresh (files : Option Files) (words : List (List ℕ)) (m : Machine) : Type 0 where
+  pub can : CanTurn m
+  pub pending : m.reader.pending ≡ []
+  pub program : Program
+  pub file : IfSome files (λ files. IsProgramFile files words program)
+  pub done : HasDone program m [] []

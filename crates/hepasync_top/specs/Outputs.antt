@@ -1,0 +1,47 @@
+-- The outputs of a program on rows.
+use Rattle.std.specs.Prelude.{ℕ, ◌+◌, List, [], ◌∷◌, map, length, Option, Some, None, IsSomeAnd}
+use Rattle.hept_ast.specs.Texts.{Name}
+use Rattle.hept_ast.specs.Scopes.{Clock, Text, Written, inputs_of, outputs_of}
+use Rattle.hept_ast.specs.Settings.{no_marks, no_replies, of_program}
+use Rattle.hept_ast.specs.Meaning.{Setting}
+use Rattle.hept_ast.specs.Outputs.{Outputs}
+use Rattle.hept_ast.specs.Erasure.{erased}
+use Rattle.hept_ast.specs.declared.tree.Node.{Node}
+use Rattle.hept_ast.specs.declared.tree.Program.{Program}
+
+-- the last node, the nodes being numbered from n
+abbrev pub last_text : ℕ → List Node → Option Text
+last_text n [] = None
+last_text n (node ∷ []) = Some (Written n node)
+last_text n (node ∷ next ∷ nodes) = last_text (n + 1) (next ∷ nodes)
+
+-- the node of a program that is run
+abbrev pub main_text : Program → Option Text
+main_text p = last_text 0 p.nodes
+
+abbrev pub text_inputs : Option Text → ℕ
+text_inputs None = 0
+text_inputs (Some text) = length (inputs_of text)
+
+abbrev pub text_outputs : Option Text → ℕ
+text_outputs None = 0
+text_outputs (Some text) = length (outputs_of text)
+
+-- how many inputs and outputs the node that is run has
+abbrev pub input_count : Program → ℕ
+input_count p = text_inputs (main_text p)
+
+abbrev pub output_count : Program → ℕ
+output_count p = text_outputs (main_text p)
+
+-- all variables are on the base clock, no instant restarts the node, and calls give their own outputs
+abbrev pub plain_setting : Program → Setting
+plain_setting p = of_program p (λ n x. []) no_marks no_replies
+
+-- the rows of output values that the stream meaning gives the node that is run on rows
+abbrev pub ProgramOutputs : Program → (rows outs : List (List ℕ)) → Type 0
+ProgramOutputs p rows outs = IsSomeAnd (main_text p) (λ text. Outputs (plain_setting p) text rows outs)
+
+-- the same of the program with its futures erased
+abbrev pub ErasedOutputs : Program → (rows outs : List (List ℕ)) → Type 0
+ErasedOutputs p rows outs = ProgramOutputs (erased p) rows outs

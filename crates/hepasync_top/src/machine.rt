@@ -1,0 +1,149 @@
+//! What is made before the trace is first read, and the turns over it.
+ghost use Rattle.std.specs.Prelude.{◌≡◌, ℕ, ◌≤◌, ◌<◌, ◌^◌, false, List, ◌∷◌, ◌++◌, [], Err, length};
+ghost use Rattle.hept_io.specs.Lines.{to_come};
+ghost use Rattle.hept_io.specs.Outside.{Rose};
+ghost use Rattle.hepasync_top.specs.Machine.{ReadsRow, EndsHere};
+
+use crate::end::End;
+use crate::output_text::RowWriter;
+use crate::row_text::read_row;
+use crate::stepper::Stepper;
+use hept_ast::{Memory, Program, meaning_laws};
+use hept_io::{LineFault, LineReader, Sink, Source};
+use std::alloc::Global;
+
+/// All that a run holds while it reads the trace.
+#[derive(Drop)]
+pub(crate) struct Machine {
+    stepper: Stepper,
+    reader: LineReader,
+    writer: RowWriter,
+    row: Vec<u32>,
+    values: Vec<u32>,
+}
+
+impl Machine {
+    ghost use Rattle.std.specs.Prelude.{◌≡◌, ℕ, ◌≤◌, List, ◌∷◌, ◌++◌, [], Err, OnOk, IfOk};
+    ghost use Rattle.hept_ast.specs.declared.tree.Program.{Program};
+    ghost use Rattle.ept_reader.specs.Served.{IsServed};
+    ghost use Rattle.hept_io.specs.Lines.{to_come};
+    ghost use Rattle.hept_io.specs.Outside.{Rose};
+    ghost use Rattle.hepasync_top.specs.Machine.{CanTurn, HasDone, Turns, TurnsEnd};
+
+    /// Makes all that takes memory, for a program.
+    pub(crate) fn new(alloc: Global, program: &Program) -> Result<Machine, Memory>
+        requires { IsServed program.now }
+        ensures can { IfOk result (λ m. CanTurn m) }
+        ensures done { IfOk result (λ m. HasDone program.now m [] []) }
+        ensures pending { IfOk result (λ m. m.reader.pending ≡ []) }
+    {
+        let stepper = Stepper::new(alloc, program)?;
+        let (inputs, outputs) = (stepper.inputs(), stepper.outputs());
+        if inputs.max(outputs) > u32::MAX as usize {
+            return Err(Memory);
+        }
+        let writer = RowWriter::new(alloc, outputs)?;
+        match (
+            LineReader::new(alloc),
+            vec![in alloc; 0; inputs],
+            vec![in alloc; 0; outputs],
+        ) {
+            (Ok(reader), Ok(row), Ok(values)) => Ok(Machine {
+                stepper,
+                reader,
+                writer,
+                row,
+                values,
+            }),
+            _ => Err(Memory),
+        }
+    }
+
+    /// Does the instant of the row.
+    fn step(&mut self)
+        requires { CanTurn self.old }
+        ensures can { CanTurn self.new }
+        ensures reader { self.new.reader ≡ self.old.reader }
+        ensures done { (p : Program) (rows outs : List (List ℕ)) → HasDone p self.old rows outs →
+            HasDone p self.new (rows ++ self.old.row.items ∷ []) (outs ++ self.new.values.items ∷ []) }
+    {
+        self.stepper
+            .instant(self.row.as_slice(), self.values.as_mut_slice());
+    }
+
+    /// One turn: reads a line, does its row's instant and writes the row of outputs.
+    fn turn<S: Source, K: Sink>(&mut self, trace: &mut S, out: &mut K) -> Result<(), End>
+        requires { CanTurn self.old }
+        ensures can { OnOk result (CanTurn self.new) }
+        ensures turns { (p : Program) (rows outs : List (List ℕ)) → HasDone p self.old rows outs →
+            Turns p rows outs (to_come self.old.reader (S.left trace.old)) (K.held out.old) result self.new (S.left trace.new) (K.held out.new) }
+        ensures read_fault { result ≡ Err End.ReadFault → Rose (S.faults trace.old) (S.faults trace.new) }
+        ensures write_fault { result ≡ Err End.WriteFault → Rose (K.faults out.old) (K.faults out.new) }
+        ensures reads { S.faults trace.old ≤ S.faults trace.new }
+        ensures writes { K.faults out.old ≤ K.faults out.new }
+    {
+        read_line(&mut self.reader, self.row.as_mut_slice(), trace)?;
+        self.step();
+        match self.writer.row(self.values.as_slice(), out) {
+            Ok(()) => Ok(()),
+            Err(_) => Err(End::WriteFault),
+        }
+    }
+
+    /// A turn for each line, up to the limit, and then the end of the trace or a further line.
+    pub(crate) fn turns<S: Source, K: Sink>(
+        &mut self,
+        limit: u32,
+        trace: &mut S,
+        out: &mut K,
+    ) -> End
+        requires { CanTurn self.old }
+        ensures ends { (p : Program) → HasDone p self.old [] [] →
+            TurnsEnd p limit (to_come self.old.reader (S.left trace.old)) (K.held out.old) result (S.left trace.new) (K.held out.new) }
+        ensures read_fault { result ≡ End.ReadFault → Rose (S.faults trace.old) (S.faults trace.new) }
+        ensures write_fault { result ≡ End.WriteFault → Rose (K.faults out.old) (K.faults out.new) }
+        ensures reads { S.faults trace.old ≤ S.faults trace.new }
+        ensures writes { K.faults out.old ≤ K.faults out.new }
+    {
+        meaning_laws();
+        for counted in 0..limit {
+            if let Err(end) = self.turn(trace, out) {
+                return end;
+            }
+        }
+        end_of_trace(&mut self.reader, trace)
+    }
+}
+
+/// Whether the trace ends here.
+fn end_of_trace<S: Source>(reader: &mut LineReader, trace: &mut S) -> End
+    requires { reader.old.is_spent ≡ false }
+    ensures ends { EndsHere (to_come reader.old (S.left trace.old)) result (S.left trace.new) }
+    ensures cause { result ≡ End.ReadFault → Rose (S.faults trace.old) (S.faults trace.new) }
+    ensures count { S.faults trace.old ≤ S.faults trace.new }
+{
+    match reader.next(trace) {
+        Ok(None) => End::Ended,
+        Ok(Some(_)) | Err(LineFault::TooLong) => End::Limit,
+        Err(LineFault::Failed) => End::ReadFault,
+    }
+}
+
+/// Reads the next line into a row.
+fn read_line<S: Source>(reader: &mut LineReader, row: &mut [u32], trace: &mut S) -> Result<(), End>
+    requires goes_on { reader.old.is_spent ≡ false }
+    requires few { length row.old < 2 ^ 32 }
+    ensures row { ReadsRow (length row.old) reader.old (S.left trace.old) result reader.new (S.left trace.new) row.new }
+    ensures cause { result ≡ Err End.ReadFault → Rose (S.faults trace.old) (S.faults trace.new) }
+    ensures count { S.faults trace.old ≤ S.faults trace.new }
+{
+    match reader.next(trace) {
+        Ok(Some(line)) => match read_row(line, row) {
+            Ok(()) => Ok(()),
+            Err(_) => Err(End::BadRow),
+        },
+        Ok(None) => Err(End::Ended),
+        Err(LineFault::Failed) => Err(End::ReadFault),
+        Err(LineFault::TooLong) => Err(End::BadRow),
+    }
+}
