@@ -1,5 +1,5 @@
 //! Reads the bytes of programs of one node of integers.
-ghost use Rattle.std.specs.Prelude.{true, ◌≡◌, ◌≢◌, ◌<◌, ◌≤◌, ◌^◌, ◌∷◌, ◌++◌, [], Some, None, List, length, map, OnOk, IfOk, IfSome, MatchOption, neg_ℤ, ◌⊎◌};
+ghost use Rattle.std.specs.Prelude.{true, ◌≡◌, ◌≢◌, ◌<◌, ◌≤◌, ◌^◌, ◌∷◌, ◌++◌, [], Some, None, List, length, map, OnOk, IfOk, IfSome, MatchOption, MatchResult, IsTrue, neg_ℤ, false, ◌↔◌, ◌⊎◌};
 ghost use Rattle.ept_reader.specs.Grammar.{after, allows, at, declared, sign, Inputs, Input, More_names, Locals, Decls, Declaration, Eqs, Eq, Expression, Fbys, Sum, Prefix, Node_dec, Whole};
 ghost use Rattle.ept_reader.specs.Reading.{look};
 ghost use Rattle.ept_reader.specs.Text.{IsText};
@@ -48,7 +48,9 @@ fn take(kind: Kind, tokens: &[Token]) -> Option<(&Token, &[Token])>
 
 /// The next token, which has to be of this kind, and those after it.
 fn want(kind: Kind, tokens: &[Token]) -> Result<(&Token, &[Token]), ReadFault>
-    ensures { IfOk result (λ x. (tokens.now ≡ x.0.now ∷ x.1.now) × (x.0.now.kind ≡ kind)) }
+    ensures { MatchResult result
+        (λ x. (tokens.now ≡ x.0.now ∷ x.1.now) × (x.0.now.kind ≡ kind))
+        (λ e. (look tokens.now ≢ Some kind) × (e ≡ ReadFault.NotServed)) }
 {
     match take(kind, tokens) {
         Some((first, rest)) => Ok((first, rest)),
@@ -133,7 +135,9 @@ fn declaration(alloc: Global, tokens: &[Token]) -> Result<(Items<Decl>, &[Token]
 }
 
 /// Whether a name comes next.
-fn starts_name(tokens: &[Token]) -> bool {
+fn starts_name(tokens: &[Token]) -> bool
+    ensures { IsTrue result ↔ (look tokens.now ≡ Some Kind.Lower) }
+{
     match tokens.split_first() {
         None => false,
         Some((token, _)) => matches!(token.kind, Kind::Lower),
@@ -251,7 +255,9 @@ fn sum_sign(tokens: &[Token]) -> Option<(BinaryOp, &Token, &[Token])>
 
 /// The counts after an operator.
 fn operator(counts: Counts) -> Result<Counts, ReadFault>
-    ensures { IfOk result (λ c. (allows Role.Operator counts ≡ true) × (c ≡ after Role.Operator counts)) }
+    ensures { MatchResult result
+        (λ c. (allows Role.Operator counts ≡ true) × (c ≡ after Role.Operator counts))
+        (λ e. (allows Role.Operator counts ≡ false) × (e ≡ ReadFault.NotServed)) }
 {
     if counts.operators < 512 {
         let operators = counts.operators + 1;
