@@ -1,5 +1,5 @@
 -- One instant of a stepper: from the rows so far to the rows with one more.
-use Rattle.std.proofs.Common.{Vec, Global, ◌≡◌, ℕ, zero, suc, ◌+◌, ◌-◌, ◌<◌, ◌≤◌, Bool, true, false, cond, List, [], ◌∷◌, ◌++◌, length, get_or, take, drop, map, Option, Some, None, refl, sym, ap, subst, arith, ◌∙◌, length-append}
+use Rattle.std.proofs.Common.{Vec, Global, ◌≡◌, ℕ, zero, suc, ◌+◌, ◌<◌, ◌≤◌, Bool, true, cond, List, [], ◌∷◌, ◌++◌, length, drop, map, Option, Some, None, refl, sym, ap, subst, arith, ◌∙◌, length-append}
 use Rattle.std.specs.Prelude.{slice_get, slice_index, slice_index_or, slice_range, EachIndex, All}
 use Rattle.hepasync_top.specs.declared.stepper.Stepper.{Stepper}
 use Rattle.std.specs.List.{IsDistinct}
@@ -9,9 +9,9 @@ use Rattle.std.proofs.lemmas.List.Edits.{get_or-between, length-between}
 use Rattle.std.specs.Vec.{with_items}
 use Rattle.std.proofs.lemmas.List.{take_at}
 use Rattle.hept_ast.specs.Texts.{Name, same, is_in, names, place_in}
-use Rattle.hept_ast.specs.Scopes.{Written, Top}
-use Rattle.hept_ast.specs.Meaning.{Question, Gives, Variable, Defined, Value, Reads, answer_to, input_at}
-use Rattle.hept_ast.specs.Outputs.{Knows, Follows, said, read, asked, HaveValues, output_questions}
+use Rattle.hept_ast.specs.Scopes.{Written}
+use Rattle.hept_ast.specs.Meaning.{Variable, Defined, Value, Reads, answer_to, input_at}
+use Rattle.hept_ast.specs.Outputs.{Follows, read, asked, HaveValues, output_questions}
 use Rattle.hept_ast.specs.declared.tree.Decl.{Decl}
 use Rattle.hept_ast.specs.declared.tree.Program.{Program}
 use Rattle.hept_ast.specs.declared.tree.Node.{Node}
@@ -20,9 +20,9 @@ use Rattle.hept_ast.proofs.Depths.{to_rule, kept_by_rows}
 use Rattle.ept_reader.specs.Served.{IsServed}
 use Rattle.hepasync_top.specs.declared.equations.Term.{Term}
 use Rattle.hepasync_top.specs.declared.equations.Assignment.{Assignment}
-use Rattle.hepasync_top.specs.Terms.{Compiled, IsInside, declared_names, term_value}
-use Rattle.hepasync_top.specs.Stepping.{IsReady, IsAssignmentInside, setting, GivesLast, AreKnown, Holds, AllHold, MakesKnown, Assigns}
-use Rattle.hepasync_top.proofs.Names.{named_within, place_in-within, place_of, named_at, in_first}
+use Rattle.hepasync_top.specs.Terms.{IsInside, declared_names, term_value}
+use Rattle.hepasync_top.specs.Stepping.{IsReady, IsAssignmentInside, setting, AreKnown, Holds, AllHold, MakesKnown, Assigns}
+use Rattle.hepasync_top.proofs.Names.{named_within, place_in-within, place_of}
 use Rattle.hepasync_top.proofs.Known.{K, top, present, term_gives}
 use Rattle.hepasync_top.proofs.Compiling.{kept_at, within_names}
 

@@ -1,5 +1,5 @@
 -- The stepper before the first row.
-use Rattle.std.proofs.Common.{◌≡◌, ◌⊎◌, inl, inr, ℕ, zero, suc, ◌+◌, ◌<◌, ◌≤◌, Bool, true, false, ◌||◌, List, [], ◌∷◌, ◌++◌, length, get_or, replicate, Option, Some, None, refl, sym, ap, subst, arith, ◌∙◌}
+use Rattle.std.proofs.Common.{◌≡◌, ◌⊎◌, inl, inr, ℕ, zero, suc, ◌+◌, ◌<◌, Bool, true, false, ◌||◌, List, [], ◌∷◌, ◌++◌, length, get_or, replicate, Option, Some, None, refl, sym, ap, subst, arith, ◌∙◌}
 use Rattle.std.specs.Prelude.{slice_get, slice_index_or, All}
 use Rattle.std.proofs.lemmas.Option.{slice_get-get_or}
 use Rattle.std.proofs.lemmas.List.{map-append, length-replicate}
@@ -13,8 +13,8 @@ use Rattle.hept_ast.specs.declared.tree.Equation.{Equation}
 use Rattle.ept_reader.specs.Served.{ServedExpr, number, variable, sum, fby, ServedBody, none, next, IsServed}
 use Rattle.hepasync_top.specs.declared.equations.Term.{Term}
 use Rattle.hepasync_top.specs.declared.equations.Assignment.{Assignment}
-use Rattle.hepasync_top.specs.Terms.{declared_names, IsInside, EachStands}
-use Rattle.hepasync_top.specs.Stepping.{Assigns, no_equation, equation, IsServedEquation, IsAssignmentInside, Stands}
+use Rattle.hepasync_top.specs.Terms.{declared_names, EachStands}
+use Rattle.hepasync_top.specs.Stepping.{Assigns, equation, IsServedEquation, IsAssignmentInside, Stands}
 use Rattle.hepasync_top.specs.declared.stepper.Stepper.{Stepper}
 use Rattle.hepasync_top.proofs.Names.{same_name, same_names, all_names, in_first, in_rest, one_of}
 use Rattle.hepasync_top.proofs.Compiling.{inside, each_inside, within_names}

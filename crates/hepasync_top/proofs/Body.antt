@@ -1,14 +1,14 @@
 -- The equations of a served program in their order: what is known after them.
-use Rattle.std.proofs.Common.{◌≡◌, ◌≢◌, ◌⊎◌, inl, inr, ℕ, zero, suc, ◌+◌, ◌-◌, ◌%◌, ◌^◌, ◌<◌, ◌≤◌, Bool, true, false, ◌||◌, cond, eqb, List, [], ◌∷◌, ◌++◌, length, get_or, set, fold, Option, Some, None, refl, sym, ap, subst, arith, ◌∙◌, get_or-set_same, get_or-set_other, length-set}
-use Rattle.std.specs.Prelude.{slice_get, slice_set, slice_index, slice_index_or}
+use Rattle.std.proofs.Common.{◌≡◌, ◌≢◌, ◌⊎◌, inl, inr, ℕ, ◌<◌, Bool, true, false, ◌||◌, cond, eqb, List, [], ◌∷◌, ◌++◌, length, get_or, set, fold, Option, Some, refl, sym, ap, subst, ◌∙◌, get_or-set_same, get_or-set_other, length-set}
+use Rattle.std.specs.Prelude.{slice_get, slice_set, slice_index}
 use Rattle.std.specs.List.{AllByRecursion, IsDistinct}
 use Rattle.std.proofs.lemmas.Bool.Decides.{Decides-eqb}
 use Rattle.std.proofs.lemmas.Option.{slice_get_within}
 use Rattle.std.proofs.lemmas.List.Folds.{list_any-append}
 use Rattle.hept_ast.specs.Texts.{Name, same, is_in, names, place_in}
-use Rattle.hept_ast.specs.Scopes.{Text, Written, Scope, Clock, Top, declares}
-use Rattle.hept_ast.specs.Meaning.{Question, Gives, Variable, Defined, Defines, Answer, Unknown, Value, Is, Rule, Says, Reads, Setting, answer_to, rule, clock_seen, right_rule, defines_rule, equation_rule, block_rule, input_at}
-use Rattle.hept_ast.specs.Outputs.{Knows, Follows, said, read, asked}
+use Rattle.hept_ast.specs.Scopes.{declares}
+use Rattle.hept_ast.specs.Meaning.{Gives, Variable, Defined, Defines, Value, Is, Says, Reads, answer_to, right_rule, defines_rule, equation_rule, block_rule}
+use Rattle.hept_ast.specs.Outputs.{Follows, said, asked}
 use Rattle.std.proofs.lemmas.List.{map-append}
 use Rattle.hept_ast.specs.declared.tree.Decl.{Decl}
 use Rattle.hept_ast.specs.declared.tree.Program.{Program}
@@ -20,7 +20,7 @@ use Rattle.hept_ast.specs.declared.tree.State.{State}
 use Rattle.hept_ast.specs.declared.tree.Equation.{Equation, out-Equation}
 use Rattle.hept_ast.specs.declared.tree.Equation.TheOpen.{Equation-F}
 use Rattle.hept_ast.proofs.Depths.{to_rule}
-use Rattle.ept_reader.specs.Served.{ServedExpr, ServedBody, none, next}
+use Rattle.ept_reader.specs.Served.{ServedBody, none, next}
 use Rattle.hepasync_top.specs.declared.equations.Term.{Term}
 use Rattle.hepasync_top.specs.declared.equations.Assignment.{Assignment}
 use Rattle.hepasync_top.specs.Terms.{StandsFor, declared_names, term_value}

@@ -1,16 +1,15 @@
 -- How far the turns have come, and how they end.
-use Rattle.std.proofs.Common.{◌≡◌, ℕ, ◌+◌, ◌<◌, ◌≤◌, suc, zero, List, [], ◌∷◌, ◌++◌, length, take, map, Option, Some, None, Result, Ok, Err, sym, refl, ap, ◌∙◌, subst, arith, rules, length-append, append_assoc}
+use Rattle.std.proofs.Common.{◌≡◌, ℕ, ◌+◌, List, [], ◌∷◌, ◌++◌, length, take, Option, Ok, Err, sym, refl, ap, ◌∙◌, subst, arith, length-append}
 use Rattle.std.specs.Bool.{⊤}
-use Rattle.std.specs.List.{flat_map}
 use Rattle.std.specs.Io.KnownBytes.{Appends, Keeps, IsAtEnd}
 use Rattle.std.proofs.lemmas.Grind.{flat_map-append}
 use Rattle.std.proofs.lemmas.List.{append-nil}
 use Rattle.hept_ast.specs.declared.tree.Program.{Program}
 use Rattle.hept_ast.specs.Laws.{ErasedKeepsOutputs}
 use Rattle.hept_io.specs.Lines.{to_come}
-use Rattle.hepasync_top.specs.OutputText.{row_line, output_text, AppendsPart}
-use Rattle.hepasync_top.specs.Outputs.{ProgramOutputs, input_count}
-use Rattle.hepasync_top.specs.Turns.{LosesRows, AtMost, NextIsBad, HasNext, EndsAfter, EndsInPart, RunEnds, ended, bad_row, limit_reached, read_fault, write_fault}
+use Rattle.hepasync_top.specs.OutputText.{row_line, output_text}
+use Rattle.hepasync_top.specs.Outputs.{input_count}
+use Rattle.hepasync_top.specs.Turns.{LosesRows, AtMost, NextIsBad, HasNext, EndsAfter, ended, bad_row, limit_reached, read_fault, write_fault}
 use Rattle.hepasync_top.specs.Machine.{HasDone, Turns, TurnsEnd, EndsHere}
 use Rattle.hepasync_top.specs.declared.machine.Machine.{Machine}
 use Rattle.hepasync_top.specs.declared.end.End.{End}

@@ -1,10 +1,10 @@
 -- What is known at an instant of a served program.
-use Rattle.std.proofs.Common.{◌≡◌, ◌≢◌, ℕ, zero, suc, ◌+◌, ◌-◌, ◌%◌, ◌^◌, ◌<◌, ◌≤◌, Bool, true, false, ◌||◌, cond, List, [], ◌∷◌, ◌++◌, length, Option, Some, None, refl, sym, ap, subst, arith, ◌∙◌}
-use Rattle.std.specs.Prelude.{slice_get, slice_index, slice_index_or}
-use Rattle.hept_ast.specs.Texts.{Name, same, is_in, place_in}
-use Rattle.hept_ast.specs.Scopes.{Text, Written, Scope, Top}
-use Rattle.hept_ast.specs.Meaning.{Question, Gives, Variable, Defined, Defines, Present, Active, Restarted, Answer, Unknown, Value, Is, Rule, Setting, rule, form_rule, block_rule, input_at}
-use Rattle.hept_ast.specs.Outputs.{Knows, Follows, said, read, asked}
+use Rattle.std.proofs.Common.{◌≡◌, ℕ, zero, suc, true, false, List, [], Option, None, sym, ap, subst, ◌∙◌}
+use Rattle.std.specs.Prelude.{slice_get, slice_index_or}
+use Rattle.hept_ast.specs.Texts.{Name}
+use Rattle.hept_ast.specs.Scopes.{Written, Scope, Top}
+use Rattle.hept_ast.specs.Meaning.{Question, Gives, Present, Active, Restarted, Answer, Value, Is, form_rule}
+use Rattle.hept_ast.specs.Outputs.{Knows, Follows, said, asked}
 use Rattle.hept_ast.specs.declared.tree.Program.{Program}
 use Rattle.hept_ast.specs.declared.tree.Node.{Node}
 use Rattle.hept_ast.specs.declared.tree.Expr.{Expr}
@@ -13,7 +13,7 @@ use Rattle.hept_ast.specs.declared.tree.Form.{Form, out-Form}
 use Rattle.hept_ast.specs.declared.tree.Form.TheOpen.{Form-F}
 use Rattle.hept_ast.specs.declared.tree.BinaryOp.TheVariants as binary
 use Rattle.hept_ast.specs.declared.tree.Const.TheVariants as const
-use Rattle.hept_ast.proofs.Depths.{to_rule, kept_by_rows}
+use Rattle.hept_ast.proofs.Depths.{to_rule}
 use Rattle.hepasync_top.specs.declared.equations.Term.{Term}
 use Rattle.hepasync_top.specs.Terms.{Compiled, number_term, variable_term, sum_term, difference_term, fby_term, declared_names, term_value, kept_or}
 use Rattle.hepasync_top.specs.Stepping.{setting, AreKnown, Holds, AllHold}

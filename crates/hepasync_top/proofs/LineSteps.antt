@@ -1,13 +1,13 @@
 -- What a call of a line reader leaves to come, and what is read from it.
-use Rattle.std.proofs.Common.{◌≡◌, ◌≢◌, ℕ, ◌+◌, ◌-◌, ◌<◌, ◌≤◌, suc, true, false, ◌⊎◌, inl, inr, ⊎_elim, List, [], ◌∷◌, ◌++◌, length, take, drop, map, Option, Some, None, Result, Ok, Err, sym, refl, ap, ◌∙◌, subst, arith, rules, length-append, append_assoc}
-use Rattle.std.specs.Io.KnownBytes.{Appends, Keeps, Consumes, IsAtEnd, prepend_known}
-use Rattle.hept_io.specs.Lines.{Reading, to_come, lines_of, IsFirstLine, FirstIsTooLong, LosesLine, GivesLine, Moves}
+use Rattle.std.proofs.Common.{◌≡◌, ℕ, ◌+◌, ◌≤◌, inl, ⊎_elim, List, [], ◌∷◌, ◌++◌, length, take, drop, map, Option, Some, None, Result, Ok, Err, sym, refl, ap, ◌∙◌, subst, arith, length-append, append_assoc}
+use Rattle.std.specs.Io.KnownBytes.{prepend_known}
+use Rattle.hept_io.specs.Lines.{Reading, to_come, lines_of, IsFirstLine, LosesLine, GivesLine, Moves}
 use Rattle.hept_io.specs.declared.lines.LineFault.{LineFault}
 use Rattle.std.specs.Borrow.{Bor}
 use Rattle.std.proofs.lemmas.List.{map-append}
 use Rattle.hepasync_top.proofs.NextOutputs.{written_back}
 use Rattle.hepasync_top.specs.RowText.{row_text}
-use Rattle.hepasync_top.specs.Turns.{TakesRows, LosesRows, AtMost, IsBadLine, NextIsBad, HasNext}
+use Rattle.hepasync_top.specs.Turns.{TakesRows, LosesRows, AtMost, NextIsBad}
 use Rattle.hepasync_top.specs.declared.row_text.RowFault.{RowFault}
 
 shorter_rest : (bytes line rest : List ℕ) → IsFirstLine bytes line rest → length rest + 1 ≤ length bytes

@@ -5,7 +5,7 @@ use Rattle.std.specs.Option.{option_map}
 use Rattle.ept_reader.specs.Served.{IsServed}
 use Rattle.hept_ast.specs.Texts.{names}
 use Rattle.hept_ast.specs.declared.tree.Decl.{Decl}
-use Rattle.hept_ast.specs.Scopes.{Text, Written}
+use Rattle.hept_ast.specs.Scopes.{Text}
 use Rattle.hept_ast.specs.Settings.{no_marks, no_replies}
 use Rattle.hept_ast.specs.Outputs.{Outputs}
 use Rattle.hept_ast.specs.Erasure.{erased, erased_node}

@@ -1,5 +1,5 @@
 -- Rows of outputs with one more row.
-use Rattle.std.proofs.Common.{◌≡◌, ℕ, suc, ◌+◌, List, [], ◌∷◌, ◌++◌, length, refl, sym, ap, subst, arith, ◌∙◌}
+use Rattle.std.proofs.Common.{◌≡◌, ℕ, suc, ◌+◌, List, [], ◌∷◌, ◌++◌, length, subst, arith}
 use Rattle.hept_ast.specs.Scopes.{Text, Written}
 use Rattle.hept_ast.specs.Meaning.{Question, Setting}
 use Rattle.hept_ast.specs.Outputs.{HaveValues, OutputsFrom, output_questions}

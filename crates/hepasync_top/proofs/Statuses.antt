@@ -1,10 +1,10 @@
 -- What the statuses of a run say.
-use Rattle.std.proofs.Common.{◌≡◌, ℕ, ◌+◌, ◌<◌, ◌≤◌, Bool, cond, eqb, ◌⊎◌, inl, inr, ⊎_elim, List, [], ◌∷◌, ◌++◌, length, take, map, Option, Some, None, Ok, length-append, sym, refl, ap, ◌∙◌, subst, arith, rules}
+use Rattle.std.proofs.Common.{◌≡◌, ℕ, ◌<◌, ◌≤◌, cond, eqb, ◌⊎◌, inl, inr, ⊎_elim, List, [], ◌∷◌, ◌++◌, length, map, Option, Some, None, Ok, length-append, sym, refl, ap, ◌∙◌, subst, arith}
 use Rattle.std.specs.Bool.{⊤}
 use Rattle.std.specs.Prelude.{IfSome, IsSomeAnd}
 use Rattle.std.proofs.lemmas.List.{append-nil}
 use Rattle.hept_io.specs.LineLaws.{NoneOfNone}
-use Rattle.std.specs.Io.KnownBytes.{Appends, IsAtEnd, prepend_known}
+use Rattle.std.specs.Io.KnownBytes.{Appends, IsAtEnd}
 use Rattle.hept_ast.specs.declared.tree.Program.{Program}
 use Rattle.hept_ast.specs.Scopes.{Text}
 use Rattle.hept_ast.specs.Meaning.{Setting}
@@ -14,9 +14,9 @@ use Rattle.hept_io.specs.Outside.{Files}
 use Rattle.hept_io.specs.Lines.{Reading, to_come, lines_of}
 use Rattle.hepasync_top.specs.End.{status_of, IsBefore}
 use Rattle.hepasync_top.specs.RowText.{row_text}
-use Rattle.hepasync_top.specs.OutputText.{row_line, output_text}
+use Rattle.hepasync_top.specs.OutputText.{output_text}
 use Rattle.hepasync_top.specs.Outputs.{ErasedOutputs, input_count, plain_setting, main_text}
-use Rattle.hepasync_top.specs.Turns.{TakesRows, LosesRows, AtMost, NextIsBad, HasNext, Counted, EndsAfter, EndsInPart, RunEnds, ended, bad_row, limit_reached, read_fault, write_fault}
+use Rattle.hepasync_top.specs.Turns.{TakesRows, LosesRows, AtMost, NextIsBad, HasNext, EndsAfter, EndsInPart, RunEnds, ended, bad_row, limit_reached, read_fault, write_fault}
 use Rattle.hepasync_top.specs.Run.{IsProgramFile, Written, WrittenWhereTold, Runs, StopsBefore, HasNoneLeft, WritesOnlyAfterReading}
 use Rattle.hepasync_top.specs.declared.end.End.{End}
 use Rattle.hepasync_top.specs.declared.end.End.TheVariants.{Ended, Refused, Usage, File, BadRow, Limit, ReadFault, WriteFault, Memory}

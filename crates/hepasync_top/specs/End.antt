@@ -1,5 +1,5 @@
 -- How a run ends, and why a file wasn't read.
-use Rattle.std.specs.Prelude.{◌≡◌, ℕ, List, Option, IfSome, ◌⊎◌, ⊤}
+use Rattle.std.specs.Prelude.{ℕ, List, Option, IfSome, ◌⊎◌, ⊤}
 use Rattle.hept_io.specs.Outside.{Files, Rose, IsLarge, HasNone}
 use Rattle.hepasync_top.specs.declared.end.End.{End}
 use Rattle.hepasync_top.specs.declared.end.End.TheVariants.{Ended, Refused, Usage, File, BadRow, Limit, ReadFault, WriteFault, Memory}

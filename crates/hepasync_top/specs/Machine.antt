@@ -1,5 +1,5 @@
 -- What is made before the trace is first read, and what its turns do.
-use Rattle.std.specs.Prelude.{◌≡◌, ℕ, ◌<◌, ◌^◌, false, List, [], ◌∷◌, ◌++◌, length, vec_len, Option, Result, Ok, Err, IfSome}
+use Rattle.std.specs.Prelude.{◌≡◌, ℕ, ◌<◌, ◌^◌, false, List, [], ◌∷◌, ◌++◌, vec_len, Option, Result, Ok, Err, IfSome}
 use Rattle.std.specs.Io.KnownBytes.{Appends, Keeps, IsAtEnd}
 use Rattle.hept_ast.specs.declared.tree.Program.{Program}
 use Rattle.hept_io.specs.Outside.{Files}
@@ -12,7 +12,7 @@ use Rattle.hepasync_top.specs.Turns.{LosesRows, AtMost, NextIsBad, HasNext, RunE
 use Rattle.hepasync_top.specs.End.{status_of}
 use Rattle.hepasync_top.specs.declared.machine.Machine.{Machine}
 use Rattle.hepasync_top.specs.declared.end.End.{End}
-use Rattle.hepasync_top.specs.declared.end.End.TheVariants.{Ended, Refused, Usage, File, BadRow, Limit, ReadFault, WriteFault, Memory}
+use Rattle.hepasync_top.specs.declared.end.End.TheVariants.{Ended, BadRow, Limit, ReadFault, WriteFault}
 
 -- it may do a turn
 pub record CanTurn (m : Machine) : Type 0 where

@@ -1,7 +1,6 @@
 -- The outputs of a program on rows.
-use Rattle.std.specs.Prelude.{ℕ, ◌+◌, List, [], ◌∷◌, map, length, Option, Some, None, IsSomeAnd}
-use Rattle.hept_ast.specs.Texts.{Name}
-use Rattle.hept_ast.specs.Scopes.{Clock, Text, Written, inputs_of, outputs_of}
+use Rattle.std.specs.Prelude.{ℕ, ◌+◌, List, [], ◌∷◌, length, Option, Some, None, IsSomeAnd}
+use Rattle.hept_ast.specs.Scopes.{Text, Written, inputs_of, outputs_of}
 use Rattle.hept_ast.specs.Settings.{no_marks, no_replies, of_program}
 use Rattle.hept_ast.specs.Meaning.{Setting}
 use Rattle.hept_ast.specs.Outputs.{Outputs}

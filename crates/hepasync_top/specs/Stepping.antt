@@ -1,7 +1,7 @@
 -- What a stepper of a served program stands for.
-use Rattle.std.specs.Prelude.{◌≡◌, ℕ, zero, suc, ◌+◌, ◌<◌, ◌≤◌, Bool, true, List, [], ◌∷◌, ◌++◌, length, Option, Some, None, slice_get, slice_index, slice_index_or, All}
+use Rattle.std.specs.Prelude.{◌≡◌, ℕ, zero, suc, ◌+◌, ◌<◌, ◌≤◌, true, List, [], ◌∷◌, ◌++◌, length, Option, Some, None, slice_get, slice_index, slice_index_or, All}
 use Rattle.hept_ast.specs.Texts.{Name, is_in, names, place_in}
-use Rattle.hept_ast.specs.Scopes.{Text, Written, Top}
+use Rattle.hept_ast.specs.Scopes.{Written, Top}
 use Rattle.hept_ast.specs.Meaning.{Gives, Variable, Value, Setting}
 use Rattle.hept_ast.specs.Outputs.{Knows, HaveValues, Outputs, output_questions}
 use Rattle.hept_ast.specs.Settings.{of_program, no_marks, no_replies}

@@ -1,10 +1,10 @@
 -- The terms that stand for the expressions of a served program: over positions of variables, and with a cell for each `fby`.
-use Rattle.std.specs.Prelude.{◌≡◌, ◌⊎◌, ℕ, ◌+◌, ◌-◌, ◌%◌, ◌^◌, ◌<◌, ℤ, Bool, true, List, [], ◌∷◌, ◌++◌, Option, Some, None, slice_get, slice_index, slice_index_or}
+use Rattle.std.specs.Prelude.{◌≡◌, ◌⊎◌, ℕ, ◌+◌, ◌-◌, ◌%◌, ◌^◌, ◌<◌, ℤ, true, List, ◌++◌, Option, Some, None, slice_get, slice_index, slice_index_or}
 use Rattle.hept_ast.specs.Values.{bits_of}
 use Rattle.hept_ast.specs.Texts.{Name, names, is_in, place_in}
 use Rattle.hept_ast.specs.declared.tree.Node.{Node}
 use Rattle.hept_ast.specs.declared.tree.Expr.{Expr}
-use Rattle.hept_ast.specs.declared.tree.Form.{Form, out-Form}
+use Rattle.hept_ast.specs.declared.tree.Form.{out-Form}
 use Rattle.hept_ast.specs.declared.tree.Form.TheOpen.{Form-F}
 use Rattle.hept_ast.specs.declared.tree.Const.{Const}
 use Rattle.hept_ast.specs.declared.tree.Const.TheVariants as const

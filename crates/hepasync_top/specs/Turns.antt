@@ -1,6 +1,6 @@
 -- What the turns of a run do to the bytes that are to come and to those that are written.
 use Rattle.std.specs.Prelude.{◌≡◌, ◌≢◌, ℕ, ◌+◌, ◌<◌, ◌≤◌, List, [], ◌∷◌, ◌++◌, length, map, take, Option, Some, None, Ok, Err, ⊤, ◌⊎◌}
-use Rattle.std.specs.Io.KnownBytes.{Appends, Keeps, IsAtEnd}
+use Rattle.std.specs.Io.KnownBytes.{Appends, IsAtEnd}
 use Rattle.hept_ast.specs.declared.tree.Program.{Program}
 use Rattle.hept_io.specs.Lines.{lines_of}
 use Rattle.hepasync_top.specs.RowText.{row_text}

@@ -1,4 +1,4 @@
-use Rattle.std.proofs.Common.{◌≡◌, fold, take, length}
+use Rattle.std.proofs.Common.{◌≡◌, fold, take}
 use Rattle.hepasync_top.proofs.Body.{assigned}
 use Rattle.hepasync_top.proofs.stepper.assign.Given as goal
 

@@ -1,4 +1,4 @@
-use Rattle.std.proofs.Common.{◌≡◌, ◌≤◌, ℕ, List, length, []}
+use Rattle.std.proofs.Common.{◌≤◌, []}
 use Rattle.hept_ast.specs.declared.tree.Program.{Program}
 use Rattle.hept_io.specs.Lines.{to_come}
 use Rattle.hepasync_top.specs.Machine.{CanTurn, HasDone}

@@ -1,8 +1,7 @@
-use Rattle.std.proofs.Common.{◌≡◌, ℕ, List, [], ◌∷◌, length, get_or, sym, ap, subst, ◌∙◌, rules}
+use Rattle.std.proofs.Common.{◌≡◌, List, length, get_or, ap, subst, ◌∙◌}
 use Rattle.std.proofs.lemmas.List.{length-replicate}
 use Rattle.hept_ast.specs.Texts.{Name}
 use Rattle.hept_ast.specs.declared.tree.Node.{Node}
-use Rattle.hept_ast.specs.declared.tree.Equation.{Equation}
 use Rattle.hepasync_top.specs.Terms.{declared_names, EachStands}
 use Rattle.hepasync_top.proofs.AtStart.{served_body, assigns_at, no_right_operand, at_start}
 use Rattle.hepasync_top.proofs.stepper.Stepper.new.Goals as goal
