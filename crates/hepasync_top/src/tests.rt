@@ -82,6 +82,19 @@ fn sum_wraps(rt: HostRuntime) -> Result<(), Fail> {
     )
 }
 
+// A `fby` in the right operand of a `fby` is a memory of its own.
+#[test]
+fn nested_fby(rt: HostRuntime) -> Result<(), Fail> {
+    expect(
+        &rt,
+        rt.alloc(),
+        b"node main(x:int) returns (y:int) let y = 1 fby (2 fby (x - y)) tel",
+        b"10\n20\n30\n40\n50\n",
+        0,
+        b"1\n2\n9\n18\n21\n",
+    )
+}
+
 #[test]
 fn carriage_return(rt: HostRuntime) -> Result<(), Fail> {
     expect(&rt, rt.alloc(), DELAYED_SUM, b"1\n2\r\n3", 0, b"0\n1\n3\n")
