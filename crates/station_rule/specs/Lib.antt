@@ -1,0 +1,6 @@
+pub mod Book
+pub mod Core
+pub mod Counts
+pub mod Key
+pub mod Seats
+pub mod Steps

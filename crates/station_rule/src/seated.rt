@@ -1,0 +1,90 @@
+// An owner and a server, as types of their own, and what both can do.
+ghost use Rattle.std.specs.Prelude.{◌≡◌, ◌≢◌, ℕ, ◌*◌, ◌+◌, ◌/◌, ◌%◌, ◌^◌, ◌<◌, [], ◌∷◌, ◌++◌, length, slice_index};
+ghost use Rattle.station_rule.specs.Book.{handle_value, cell_slot, cell_component, IsHeld};
+ghost use Rattle.station_rule.specs.Core.{component_word};
+ghost use Rattle.station_rule.specs.Steps.{job_of, rest_jobs};
+ghost use Rattle.station_rule.specs.Seats.{StationSeat, IsSeatOf, IsOwner, IsServer, HasInstance, book};
+
+use crate::meaning::Meaning;
+use crate::station::Station;
+use crate::view::View;
+use atomic_table::Seat;
+use std::alloc::Allocator;
+
+/// The seat of the one who offers calls.
+#[derive(Drop)]
+pub struct Owner<M> {
+    pub seat: Seat<Option<M>, View>,
+}
+
+/// A seat of one who takes calls and does them.
+#[derive(Drop)]
+pub struct Server<M> {
+    pub seat: Seat<Option<M>, View>,
+}
+
+/// A future: a component of the slot of a call, and the generation by which the call has the slot.
+#[derive(Clone, Copy)]
+pub struct Handle {
+    pub slot: u32,
+    pub component: u32,
+    pub generation: u32,
+}
+
+/// What an owner and a server share: each may read the futures that it knows.
+pub trait Seated<M> {
+    ghost use Rattle.std.specs.Prelude.{ℕ};
+    ghost use Rattle.station_rule.specs.declared.seated.Handle.{Handle};
+    ghost use Rattle.station_rule.specs.Seats.{StationSeat};
+
+    ghost seat: { Self → StationSeat M };
+
+    // the handle is one that the seat may ask for
+    ghost knows: { Self → Handle → Type 0 };
+
+    // the value that the seat knows it by
+    ghost means: { Self → Handle → ℕ → Type 0 };
+
+    fn look<N: Meaning<M>, A: Allocator>(
+        &mut self,
+        station: &Station<M, N, A>,
+        handle: Handle,
+    ) -> u64
+        requires station { IsSeatOf station.now (seat self.old) }
+        requires handle { knows self.old handle × (handle.slot < station.now.layout.slots) × (handle.component < station.now.layout.components) }
+        ensures station { IsSeatOf station.now (seat self.new) }
+        ensures look { (seat self.new).me.0.looks ≡ (seat self.old).me.0.looks ++ record { word = component_word station.now.layout handle.slot handle.component; found = result } ∷ [] }
+        ensures value { result / 2 ^ 32 ≡ handle.generation → means self.old handle (result % 2 ^ 32) };
+}
+
+impl<M> Seated<M> for Owner<M> {
+    ghost seat = { λ s. s.seat };
+
+    ghost knows = { λ s h. IsOwner s.seat × (0 < h.generation) };
+
+    ghost means = { λ s h x. x ≡ handle_value (book s.seat) h.slot h.generation h.component };
+
+    fn look<N: Meaning<M>, A: Allocator>(
+        &mut self,
+        station: &Station<M, N, A>,
+        handle: Handle,
+    ) -> u64 {
+        station.find(&mut self.seat, handle.slot as u64, handle.component as u64)
+    }
+}
+
+impl<M> Seated<M> for Server<M> {
+    ghost seat = { λ s. s.seat };
+
+    ghost knows = { λ s h. IsServer s.seat × (s.seat.me.0.jobs ≡ job_of s.seat.me.0 ∷ rest_jobs s.seat.me.0.jobs) × ((job_of s.seat.me.0).call.instance < length s.seat.me.0.layout.sites) };
+
+    ghost means = { λ s h x. (j : ℕ) → 2 * j + 2 < length (job_of s.seat.me.0).call.words → IsHeld (slice_index (job_of s.seat.me.0).call.words (2 * j + 1)) → cell_slot (slice_index (job_of s.seat.me.0).call.words (2 * j + 1)) ≡ h.slot → cell_component (slice_index (job_of s.seat.me.0).call.words (2 * j + 1)) ≡ h.component → slice_index (job_of s.seat.me.0).call.words (2 * j + 2) ≡ h.generation → x ≡ slice_index (job_of s.seat.me.0).call.sent.values j };
+
+    fn look<N: Meaning<M>, A: Allocator>(
+        &mut self,
+        station: &Station<M, N, A>,
+        handle: Handle,
+    ) -> u64 {
+        station.fetch(&mut self.seat, handle.slot as u64, handle.component as u64)
+    }
+}
