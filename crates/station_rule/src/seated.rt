@@ -2,8 +2,8 @@
 ghost use Rattle.std.specs.Prelude.{◌≡◌, ◌≢◌, ℕ, ◌*◌, ◌+◌, ◌/◌, ◌%◌, ◌^◌, ◌<◌, [], ◌∷◌, ◌++◌, length, slice_index};
 ghost use Rattle.station_rule.specs.Book.{handle_value, cell_slot, cell_component, IsHeld};
 ghost use Rattle.station_rule.specs.Core.{component_word};
-ghost use Rattle.station_rule.specs.Steps.{job_of, rest_jobs};
-ghost use Rattle.station_rule.specs.Seats.{StationSeat, IsSeatOf, IsOwner, IsServer, HasInstance, book};
+ghost use Rattle.station_rule.specs.Steps.{saw, job_of, rest_jobs};
+ghost use Rattle.station_rule.specs.Seats.{StationSeat, IsSeatOf, IsSameSeat, IsOwner, IsServer, HasInstance, book};
 
 use crate::meaning::Meaning;
 use crate::station::Station;
@@ -45,6 +45,7 @@ pub trait Seated<M> {
     // the value that the seat knows it by
     ghost means: { Self → Handle → ℕ → Type 0 };
 
+    /// Step: loads the component that the handle names.
     fn look<N: Meaning<M>, A: Allocator>(
         &mut self,
         station: &Station<M, N, A>,
@@ -52,8 +53,8 @@ pub trait Seated<M> {
     ) -> u64
         requires station { IsSeatOf station.now (seat self.old) }
         requires handle { knows self.old handle × (handle.slot < station.now.layout.slots) × (handle.component < station.now.layout.components) }
-        ensures station { IsSeatOf station.now (seat self.new) }
-        ensures look { (seat self.new).me.0.looks ≡ (seat self.old).me.0.looks ++ record { word = component_word station.now.layout handle.slot handle.component; found = result } ∷ [] }
+        ensures station { IsSeatOf station.now (seat self.new) × IsSameSeat (seat self.old) (seat self.new) }
+        ensures look { (seat self.new).me ≡ (record (seat self.old).me.0 { looks = saw (seat self.old).me.0 (component_word station.now.layout handle.slot handle.component) result }, (seat self.old).me.1) }
         ensures value { result / 2 ^ 32 ≡ handle.generation → means self.old handle (result % 2 ^ 32) };
 }
 
