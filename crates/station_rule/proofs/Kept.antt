@@ -18,7 +18,8 @@ use Rattle.station_rule.specs.declared.view.View.{View}
 use Rattle.station_rule.specs.declared.view.Role.{Role}
 use Rattle.station_rule.specs.declared.view.Role.TheVariants.{Offers, Serves, Rests}
 use Rattle.station_rule.specs.Book.{calls, issued, sents, slot_of, gen_of}
-use Rattle.station_rule.specs.Core.{Turn, free, held, up, Core, site_end, place, component_word, Placed, Written, AtHome, Inst, Shown, IsJob, Jobs, IsOwners, IsServers, Knows, Named, Shows, Lawful}
+use Rattle.station_rule.specs.Core.{Turn, free, held, up, Core, site_end, place, component_word, Placed, Written, AtHome, Inst, Shown, Fills, Once, IsJob, Jobs, IsOwners, IsServers, Knows, Named, Shows, Lawful}
+use Rattle.station_rule.proofs.Once.{once_stays}
 use Rattle.station_rule.proofs.Lists.{Off, Outside, off_place, off_outside, off_head, outside, place_below, component_below, some_below, set_there, written_else}
 
 abbrev pub SameJobs : View → View → Type 0
@@ -47,10 +48,11 @@ named_stays vs id v w i (held j) at role jobs n =
     (λ other. (n.0, set_else vs id j w other ∙ n.1, n.2, n.3))
 
 -- jobs that a step leaves, where only done and turn, and the entry, moved
-pub jobs_move : (k : Key) (c : Core) (at' : ℕ) (entry' : List ℕ) (done' : ℕ → ℕ) (turn' : ℕ → Turn) (j : ℕ) (js : List Work) → ((n : ℕ) (x : Work) → get_elem? js n ≡ some x → c.turn x.call.instance ≡ held j → (turn' x.call.instance ≡ held j) × (done' x.call.instance ≡ c.done x.call.instance))
-    → Jobs k c j js → Jobs k (record c { at = at'; entry = entry'; done = done'; turn = turn' }) j js
-jobs_move k c at' entry' done' turn' j [] keep b = tt
-jobs_move k c at' entry' done' turn' j (x ∷ xs) keep b =
+pub jobs_move : (k : Key) (c : Core) (at' : ℕ) (entry' : List ℕ) (done' : ℕ → ℕ) (turn' : ℕ → Turn) (filled' : ℕ → List ℕ) (j : ℕ) (js : List Work)
+    → ((n : ℕ) (x : Work) → get_elem? js n ≡ some x → c.turn x.call.instance ≡ held j → (turn' x.call.instance ≡ held j) × (done' x.call.instance ≡ c.done x.call.instance) × (filled' x.call.instance ≡ c.filled x.call.instance))
+    → Jobs k c j js → Jobs k (record c { at = at'; entry = entry'; done = done'; turn = turn'; filled = filled' }) j js
+jobs_move k c at' entry' done' turn' filled' j [] keep b = tt
+jobs_move k c at' entry' done' turn' filled' j (x ∷ xs) keep b =
     let i : ℕ = x.call.instance in
     let same = keep 0 x refl b.0.holds in (
       record {
@@ -60,14 +62,15 @@ jobs_move k c at' entry' done' turn' j (x ∷ xs) keep b =
         call = ap (get_elem? (calls i c.book)) same.1 ∙ b.0.call;
         read = b.0.read;
         filled = b.0.filled;
+        lists = b.0.lists ∙ sym same.2;
       },
-      jobs_move k c at' entry' done' turn' j xs (λ n. keep (suc n)) b.1,
+      jobs_move k c at' entry' done' turn' filled' j xs (λ n. keep (suc n)) b.1,
     )
 
 -- a seat that did not step
-pub others_move : (k : Key) (c : Core) (at' : ℕ) (entry' : List ℕ) (done' : ℕ → ℕ) (turn' : ℕ → Turn) (j : ℕ) (v : View) (role : Role) → (j ≡ c.owner → (c.at ≡ at') × (c.entry ≡ entry')) → ((i : ℕ) → c.done i ≤ done' i)
-    → ((i : ℕ) → c.turn i ≡ held j → (turn' i ≡ held j) × (done' i ≡ c.done i)) → Knows k c j v role → Knows k (record c { at = at'; entry = entry'; done = done'; turn = turn' }) j v role
-others_move k c at' entry' done' turn' j v Offers mine up keep kn = let same = mine kn.seat in record {
+pub others_move : (k : Key) (c : Core) (at' : ℕ) (entry' : List ℕ) (done' : ℕ → ℕ) (turn' : ℕ → Turn) (filled' : ℕ → List ℕ) (j : ℕ) (v : View) (role : Role) → (j ≡ c.owner → (c.at ≡ at') × (c.entry ≡ entry')) → ((i : ℕ) → c.done i ≤ done' i)
+    → ((i : ℕ) → c.turn i ≡ held j → (turn' i ≡ held j) × (done' i ≡ c.done i) × (filled' i ≡ c.filled i)) → Knows k c j v role → Knows k (record c { at = at'; entry = entry'; done = done'; turn = turn'; filled = filled' }) j v role
+others_move k c at' entry' done' turn' filled' j v Offers mine up keep kn = let same = mine kn.seat in record {
   layout = kn.layout;
   seat = kn.seat;
   book = kn.book;
@@ -78,9 +81,9 @@ others_move k c at' entry' done' turn' j v Offers mine up keep kn = let same = m
   closed = kn.closed;
   jobs = kn.jobs;
 }
-others_move k c at' entry' done' turn' j v Serves mine up keep kn =
-    record { layout = kn.layout; done = le_trans kn.done (up v.at); tail = kn.tail; closed = kn.closed; jobs = jobs_move k c at' entry' done' turn' j v.jobs (λ _ x _. keep x.call.instance) kn.jobs; apart = kn.apart; few = kn.few }
-others_move k c at' entry' done' turn' j v Rests mine up keep kn = kn
+others_move k c at' entry' done' turn' filled' j v Serves mine up keep kn =
+    record { layout = kn.layout; done = le_trans kn.done (up v.at); tail = kn.tail; closed = kn.closed; jobs = jobs_move k c at' entry' done' turn' filled' j v.jobs (λ _ x _. keep x.call.instance) kn.jobs; apart = kn.apart; few = kn.few }
+others_move k c at' entry' done' turn' filled' j v Rests mine up keep kn = kn
 
 module _ {M : Type 0} where
   pub home_stays : (stands : M → List Sent → Type 0) (cs : List Entry) (done : ℕ) (homes homes' : List (maybe.Option (Option M))) (i : ℕ) (t : Turn) → get_elem? homes' i ≡ get_elem? homes i → AtHome stands cs done homes i t → AtHome stands cs done homes' i t
@@ -112,8 +115,8 @@ module _ {M : Type 0} (stands : ℕ → M → List Sent → Type 0) (given : ℕ
   knows c s r id v role at is = subst (Knows k c id v) is (r.each_seat id v at)
 
   -- only views change
-  pub reviewed : (c : Core) (s : St) (r : Shows stands given k c s) (vs : List View) → Seats k c vs → ((i : ℕ) → i < length k.sites → Named vs i (c.turn i)) → Shows stands given k c record { words = s.words; homes = s.homes; views = vs }
-  reviewed c s r vs seats named = record {
+  pub reviewed : (c : Core) (s : St) (r : Shows stands given k c s) (vs : List View) → Seats k c vs → ((i : ℕ) → i < length k.sites → Named vs i (c.turn i)) → (finisher : ℕ → ℕ → ℕ × ℕ) × Once (length k.sites) c.done finisher vs → Shows stands given k c record { words = s.words; homes = s.homes; views = vs }
+  reviewed c s r vs seats named once = record {
     placed = r.placed;
     wide = r.wide;
     shelves = r.shelves;
@@ -124,6 +127,8 @@ module _ {M : Type 0} (stands : ℕ → M → List Sent → Type 0) (given : ℕ
     each_component = r.each_component;
     shown_is = r.shown_is;
     full = r.full;
+    fills = r.fills;
+    once = once;
     numbered = r.numbered;
     slotted = r.slotted;
     named = named;
@@ -131,21 +136,22 @@ module _ {M : Type 0} (stands : ℕ → M → List Sent → Type 0) (given : ℕ
   }
 
   -- a load, after which the seat knows w
-  pub seen : (c : Core) (s : St) (r : Shows stands given k c s) (i id : ℕ) (cs : List (ℕ × Option M)) (v w : View) → get_elem? s.views id ≡ some v → Knows k c id w w.role → w.role ≡ v.role → SameJobs v w
+  pub seen : (c : Core) (s : St) (r : Shows stands given k c s) (i id : ℕ) (cs : List (ℕ × Option M)) (v w : View) → get_elem? s.views id ≡ some v → Knows k c id w w.role → w.role ≡ v.role → SameJobs v w → w.finished ≡ v.finished
       → Lawful stands given k (stepped s i (get_or s.words i 0) id cs w keeps)
-  seen c s r i id cs v w at fits role jobs =
+  seen c s r i id cs v w at fits role jobs finished =
       subst (λ (ws : List ℕ). Lawful stands given k record { words = ws; homes = s.homes; views = set s.views id w }) (sym (set-get_or s.words i 0))
-      (c, reviewed c s r (set s.views id w) (seats_stay k c s.views id w fits (λ j u _. r.each_seat j u)) (λ j near. named_stays s.views id v w j (c.turn j) at role jobs (r.named j near)))
+      (c, reviewed c s r (set s.views id w) (seats_stay k c s.views id w fits (λ j u _. r.each_seat j u)) (λ j near. named_stays s.views id v w j (c.turn j) at role jobs (r.named j near)) (r.once.0, once_stays (length k.sites) c.done r.once.0 s.views id v w at finished r.once.1))
 
   -- a step on a word of one instance
-  pub moved : (c : Core) (s : St) (r : Shows stands given k c s) (i : ℕ) (t : Site) (p x : ℕ) (at' : ℕ) (entry' : List ℕ) (done' : ℕ → ℕ) (turn' : ℕ → Turn) (homes' : List (maybe.Option (Option M))) (vs' : List View)
+  pub moved : (c : Core) (s : St) (r : Shows stands given k c s) (i : ℕ) (t : Site) (p x : ℕ) (at' : ℕ) (entry' : List ℕ) (done' : ℕ → ℕ) (turn' : ℕ → Turn) (filled' : ℕ → List ℕ) (homes' : List (maybe.Option (Option M))) (vs' : List View)
       → get_elem? k.sites i ≡ some t → t.start ≤ p → p < site_end t → ((j : ℕ) → j ≢ i → (done' j ≡ c.done j) × (turn' j ≡ c.turn j)) → length homes' ≡ length s.homes → ((j : ℕ) → j ≢ i → get_elem? homes' j ≡ get_elem? s.homes j)
       → (c.mark ≡ 1 → entry' ≡ []) → Inst (stands i) given k c.book i t (done' i) (turn' i) (set s.words p x) homes'
       → ((u : Site) → get_elem? k.sites at' ≡ some u → Written u (set s.words p x) (length (calls at' c.book)) entry' × (length entry' ≤ u.width))
       → ((j n m : ℕ) (e : Entry) → j < length k.sites → n < done' j → get_elem? (calls j c.book) n ≡ some e → m < length e.outs → gen_of e.words ≤ c.shown (slot_of e.words) m)
-      → ((j : ℕ) → j < length k.sites → Named vs' j (turn' j)) → Seats k (record c { at = at'; entry = entry'; done = done'; turn = turn' }) vs'
-      → Shows stands given k (record c { at = at'; entry = entry'; done = done'; turn = turn' }) record { words = set s.words p x; homes = homes'; views = vs' }
-  moved c s r i t p x at' entry' done' turn' homes' vs' here from below same shelves home mark inst begun full named seats =
+      → ((j : ℕ) → j < length k.sites → Named vs' j (turn' j)) → Seats k (record c { at = at'; entry = entry'; done = done'; turn = turn'; filled = filled' }) vs'
+      → Fills k c.book done' turn' filled' c.shown → (finisher : ℕ → ℕ → ℕ × ℕ) × Once (length k.sites) done' finisher vs'
+      → Shows stands given k (record c { at = at'; entry = entry'; done = done'; turn = turn'; filled = filled' }) record { words = set s.words p x; homes = homes'; views = vs' }
+  moved c s r i t p x at' entry' done' turn' filled' homes' vs' here from below same shelves home mark inst begun full named seats fills once =
       let first = r.placed.first i t here in record {
         placed = r.placed;
         wide = length-set s.words p x ∙ r.wide;
@@ -160,6 +166,8 @@ module _ {M : Type 0} (stands : ℕ → M → List Sent → Type 0) (given : ℕ
         each_component = λ n m near near'. subst (Shown c.book n m) (sym (get_or-set_other s.words p (component_word k n m) x 0 (λ e. let b = component_below k n m near near' in omega arith))) (r.each_component n m near near');
         shown_is = λ n m near near'. ap (λ (z : ℕ). z / 2 ^ 32) (get_or-set_other s.words p (component_word k n m) x 0 (λ e. let b = component_below k n m near near' in omega arith)) ∙ r.shown_is n m near near';
         full = full;
+        fills = fills;
+        once = once;
         numbered = r.numbered;
         slotted = r.slotted;
         named = named;

@@ -154,6 +154,17 @@ module _ (p : Entry → Bool) where
       first zero more y at = ap p (sym (some-injective x e at)) ∙ y
       first (suc n) more y at = more n at
 
+  -- what was picked is in the list
+  pub pick_in : (es : List Entry) (n : ℕ) (e : Entry) → get_elem? (pick p es) n ≡ some e → (m : ℕ) × (get_elem? es m ≡ some e)
+  pick_in [] n e at = absurd (some-ne-none e (sym at))
+  pick_in (x ∷ xs) n e at = ⊎_elim
+      (λ (y : p x ≡ true). first n (λ m. pick_in xs m e) (ap (λ (b : Bool). get_elem? (cond b (x ∷ pick p xs) (pick p xs)) n) (sym y) ∙ at))
+      (λ (y : p x ≡ false). let r = pick_in xs n e (ap (λ (b : Bool). get_elem? (cond b (x ∷ pick p xs) (pick p xs)) n) (sym y) ∙ at) in (suc r.0, r.1)) (bool_cases (p x))
+    where
+      first : (n : ℕ) → ((m : ℕ) → get_elem? (pick p xs) m ≡ some e → (o : ℕ) × (get_elem? xs o ≡ some e)) → get_elem? (x ∷ pick p xs) n ≡ some e → (o : ℕ) × (get_elem? (x ∷ xs) o ≡ some e)
+      first zero more at = (0, at)
+      first (suc n) more at = let r = more n at in (suc r.0, r.1)
+
 pub values_at : (book : List Entry) (ws : List ℕ) (j : ℕ) → 2 * j + 1 < length ws → get_or (values book ws) j 0 ≡ cell_value book (get_or ws (2 * j) 0) (get_or ws (2 * j + 1) 0)
 values_at book [] j near = absurd (omega arith)
 values_at book (a ∷ []) j near = absurd (omega arith)
@@ -217,6 +228,16 @@ length-values book (a ∷ b ∷ ws) = let r = length-values book ws in omega ari
 
 pub in_issued : {A : Type 0} (l : List A) (g : ℕ) (e : A) → get_elem? l (g - 1) ≡ some e → g ≤ length l
 in_issued l g e at = let h = some_below l (g - 1) e at in omega arith
+
+-- an element behind those of a first list
+pub at_behind : {A : Type 0} (l m : List A) (j : ℕ) (a : A) → get_elem? m j ≡ some a → get_elem? (l ++ m) (length l + j) ≡ some a
+at_behind [] m j a e = let g : 0 + j ≡ j = omega arith in ap (get_elem? m) g ∙ e
+at_behind (x ∷ xs) m j a e = let g : length (x ∷ xs) + j ≡ suc (length xs + j) = omega arith in ap (get_elem? (x ∷ xs ++ m)) g ∙ at_behind xs m j a e
+
+pub at_either : {A : Type 0} (l m : List A) (j : ℕ) (a : A) → get_elem? (l ++ m) j ≡ some a → ((j < length l) × (get_elem? l j ≡ some a)) ⊎ ((o : ℕ) × (j ≡ length l + o) × (get_elem? m o ≡ some a))
+at_either [] m j a e = inr (j, omega arith, e)
+at_either (x ∷ xs) m zero a e = inl (omega arith, e)
+at_either (x ∷ xs) m (suc j) a e = ⊎_elim (λ t. let near = t.0 in inl (omega arith, t.1)) (λ t. let is = t.1 in inr (t.0, omega arith, t.2)) (at_either xs m j a e)
 
 -- one value of a table of numbers
 abbrev pub put_at : (ℕ → ℕ → ℕ) → ℕ → ℕ → ℕ → ℕ → ℕ → ℕ

@@ -20,7 +20,9 @@ use Rattle.station_rule.specs.declared.view.Role.TheVariants.{Offers, Serves, Re
 use Rattle.station_rule.specs.Book.{is_of, has_slot, slot_of, gen_of, calls, issued, sents, IsHeld, cell_slot, cell_component, cell_value, handle_value, out_at, values, sent_of, entry_of, IsLive, EachHandle, IsUnnamed, InputsLive}
 use Rattle.station_rule.specs.Core.{Turn, free, held, up, Core, site_end, place, component_word, Written, Entered, Live, AtHome, Inst, Shown, Numbered, Slotted, IsJob, Jobs, IsOwners, IsServers, Knows, Named, Shows, Lawful}
 use Rattle.station_rule.specs.Steps.{saw, counted, looked, wrote, published, found, raised}
-use Rattle.station_rule.proofs.Lists.{Off, off_place, off_outside, off_head, one_site, one_place, outside, place_apart, place_below, component_below, some_below, some_at, at_end, written_else, pick_hit, pick_miss, pick_longer, pick_take, pick_grows, pick_end, values_at, get_or-drop_one, length-values, few_calls}
+use Rattle.station_rule.proofs.Once.{once_stays}
+use Rattle.station_rule.proofs.Filled.{fills_publish}
+use Rattle.station_rule.proofs.Lists.{Off, off_place, off_outside, off_head, one_site, one_place, outside, place_apart, place_below, component_below, some_below, some_at, at_end, written_else, pick_hit, pick_miss, pick_longer, pick_take, pick_grows, pick_end, pick_says, pick_in, in_issued, values_at, get_or-drop_one, length-values, few_calls}
 use Rattle.station_rule.proofs.Kept.{Seats, seats_stay, knows_as, named_stays, others_move, home_stays, inst_stays, knows, reviewed, seen, moved, begun_stays, half}
 
 module _ {M : Type 0} (stands : ℕ → M → List Sent → Type 0) (given : ℕ → List Sent → List ℕ) (k : Key) where
@@ -51,7 +53,7 @@ module _ {M : Type 0} (stands : ℕ → M → List Sent → Type 0) (given : ℕ
         w,
         keeps,
         tt,
-        seen stands given k c s r p id me.1 v w at (knows_as k c id w Offers role (glimpse c id v p x mine)) refl (λ n y e. (n, y, e, refl)),
+        seen stands given k c s r p id me.1 v w at (knows_as k c id w Offers role (glimpse c id v p x mine)) refl (λ n y e. (n, y, e, refl)) refl,
         (
           refl,
           λ j u at' e.
@@ -63,7 +65,7 @@ module _ {M : Type 0} (stands : ℕ → M → List Sent → Type 0) (given : ℕ
         ),
       )
 
-  pub looks : (n id : ℕ) (me : Sat) (i : ℕ) (t : Site) → me.0.role ≡ Offers → get_elem? k.sites i ≡ some t → Allows Keeps n id me (t.start + 1) (λ x. x) (looked (step n (t.start + 1) 0 0 none) me)
+  pub looks : (n id : ℕ) (me : Sat) (i : ℕ) (t : Site) → me.0.role ≡ Offers → get_elem? k.sites i ≡ some t → Allows Keeps n id me (t.start + 1) (λ x. x) (looked stands given (step n (t.start + 1) 0 0 none) me)
   looks n id me i t role here s (c, r) deep at small =
       let v = me.0 in
       let p : ℕ = t.start + 1 in
@@ -89,7 +91,7 @@ module _ {M : Type 0} (stands : ℕ → M → List Sent → Type 0) (given : ℕ
         w,
         keeps,
         tt,
-        seen stands given k c s r p id me.1 v w at (knows_as k c id w Offers role kn) refl (λ n y e. (n, y, e, refl)),
+        seen stands given k c s r p id me.1 v w at (knows_as k c id w Offers role kn) refl (λ n y e. (n, y, e, refl)) refl,
         λ j u at' e.
             let there : get_elem? k.sites j ≡ some u = subst (λ (l : Key). get_elem? l.sites j ≡ some u) mine.layout at' in
             let same : i ≡ j = one_site k r.placed i j t u p here there (omega arith) (omega arith) (omega arith) (omega arith) in
@@ -99,7 +101,7 @@ module _ {M : Type 0} (stands : ℕ → M → List Sent → Type 0) (given : ℕ
             let behind = in_j.behind in
             let within = in_j.within in
             let old = mine.seen j in
-            (ap (λ (z : ℕ). (record v { seen = set v.seen z (x / 2); looks = saw v p x }, me.1)) same, omega arith, get_or-set_same v.seen j (x / 2) 0 (let z = near in omega arith), omega arith, omega arith),
+            (ap (λ (z : ℕ). (record v { seen = set v.seen z (x / 2); looks = saw v p x }, me.1)) same, omega arith, get_or-set_same v.seen j (x / 2) 0 (let z = near in omega arith), omega arith, omega arith, (s, c, subst (λ (h : Key). Shows stands given h c s) (sym mine.layout) r, sym is', sym mine.book)),
       )
 
   -- one word of the next entry is written
@@ -154,7 +156,7 @@ module _ {M : Type 0} (stands : ℕ → M → List Sent → Type 0) (given : ℕ
         tt,
         (
           c',
-          moved stands given k c s r i t p x i entry' c.done c.turn s.homes (set s.views id w) here (omega arith) (omega arith) (λ j _. (refl, refl)) refl (λ j _. refl)
+          moved stands given k c s r i t p x i entry' c.done c.turn c.filled s.homes (set s.views id w) here (omega arith) (omega arith) (λ j _. (refl, refl)) refl (λ j _. refl)
               (λ e. let z : 0 ≡ 1 = sym unclosed ∙ mine.closed ∙ e in absurd (omega arith))
               inst
               (λ u at'.
@@ -172,7 +174,8 @@ module _ {M : Type 0} (stands : ℕ → M → List Sent → Type 0) (given : ℕ
               (λ j near'. named_stays s.views id v w j (c.turn j) at refl (λ n y e. (n, y, e, refl)) (r.named j near'))
               (seats_stay k c' s.views id w
               (knows_as k c' id w Offers role record { layout = mine.layout; seat = mine.seat; book = mine.book; at = refl; entry = ap (λ (z : List ℕ). z ++ x ∷ []) mine.entry; wide = mine.wide; seen = mine.seen; closed = mine.closed; jobs = mine.jobs })
-              (λ j u other e. others_move k c i entry' c.done c.turn j u u.role (λ own. absurd (other (own ∙ sym mine.seat))) (λ z. le_refl (c.done z)) (λ z h. (h, refl)) (r.each_seat j u e))),
+              (λ j u other e. others_move k c i entry' c.done c.turn c.filled j u u.role (λ own. absurd (other (own ∙ sym mine.seat))) (λ z. le_refl (c.done z)) (λ z h. (h, refl, refl)) (r.each_seat j u e)))
+              r.fills (r.once.0, once_stays (length k.sites) c.done r.once.0 s.views id v w at refl r.once.1),
         ),
         λ j u at' near' roomy' e.
             let there : get_elem? k.sites j ≡ some u = subst (λ (l : Key). get_elem? l.sites j ≡ some u) mine.layout at' in
@@ -192,6 +195,7 @@ module _ {M : Type 0} (stands : ℕ → M → List Sent → Type 0) (given : ℕ
     first = r.first;
     given_slot = pick_longer (has_slot (slot_of e.words)) book x (gen_of e.words - 1) e r.given_slot;
     sent_as = r.sent_as;
+    in_range = r.in_range;
     resolved = λ j near is. let h = r.resolved j near is in (h.0, (h.1.0, pick_longer (has_slot (cell_slot (get_or e.words (2 * j + 1) 0))) book x (get_or e.words (2 * j + 2) 0 - 1) h.1.0 h.1.1, h.1.2));
     answers = r.answers ∙ ap (λ (l : List Entry). given i (sents l ++ e.sent ∷ [])) (sym (pick_take (is_of i) book x n le));
   }
@@ -224,6 +228,7 @@ module _ {M : Type 0} (stands : ℕ → M → List Sent → Type 0) (given : ℕ
           call = pick_longer (is_of i) c.book x (c.done i) y.call b.0.call;
           read = b.0.read;
           filled = b.0.filled;
+          lists = b.0.lists;
         },
         jobs_publish c x j ys behind b.1,
       )
@@ -232,8 +237,8 @@ module _ {M : Type 0} (stands : ℕ → M → List Sent → Type 0) (given : ℕ
   -- the entry ends the book
   pub publishes : (n id : ℕ) (me : Sat) (i : ℕ) (t : Site) (x : ℕ) → me.0.role ≡ Offers → get_elem? k.sites i ≡ some t → me.0.at ≡ i → length me.0.entry ≡ t.width → length (calls i me.0.book) < get_or me.0.seen i 0 + t.queue
       → x ≡ length (calls i me.0.book) + 1 → slot_of me.0.entry < k.slots → gen_of me.0.entry ≡ length (issued (slot_of me.0.entry) me.0.book) + 1
-      → IsUnnamed me.0.book me.0.seen (slot_of me.0.entry) → InputsLive me.0.book me.0.entry → Allows Keeps n id me t.start (λ _. x) (λ _. published given (step n t.start x 0 none) me x)
-  publishes n id me i t x role here at_i full room is slot_near next unnamed inputs s (c, r) deep at small =
+      → IsUnnamed me.0.book me.0.seen (slot_of me.0.entry) → InputsLive me.0.book me.0.entry → EachHandle me.0.entry (λ j a b. cell_component a < k.components) → Allows Keeps n id me t.start (λ _. x) (λ _. published given (step n t.start x 0 none) me x)
+  publishes n id me i t x role here at_i full room is slot_near next unnamed inputs ranged s (c, r) deep at small =
       let v = me.0 in
       let mine = knows stands given k c s r id v Offers at role in
       let roomy = r.placed.roomy i t here in
@@ -284,6 +289,16 @@ module _ {M : Type 0} (stands : ℕ → M → List Sent → Type 0) (given : ℕ
               let value : get_or (values b (drop 1 v.entry)) j 0 ≡ cell_value b a q = values_at b (drop 1 v.entry) j (omega (arith, length-drop 1 v.entry)) ∙ (λ z. cell_value b (get_or-drop_one v.entry (2 * j) z) ((get_or-drop_one v.entry (2 * j + 1) ∙ ap (λ (m : ℕ). get_or v.entry m 0) (let o : 2 * j + 1 + 1 ≡ 2 * j + 2 = omega arith in o)) z)) in
               value ∙ ap (λ (z : Bool). cond z (handle_value b (cell_slot a) q (cell_component a)) q) (ne_eqb (a % 4) 2 plain);
         };
+        in_range = λ j near held_j.
+            let a : ℕ = get_or v.entry (2 * j + 1) 0 in
+            let q : ℕ = get_or v.entry (2 * j + 2) 0 in
+            let h = inputs j near held_j in
+            let pos = h.0 in
+            let live = h.1 in
+            let there = some_at (issued (cell_slot a) b) (q - 1) (omega arith) in
+            let whose = eqb-true (slot_of there.0.words) (cell_slot a) (pick_says (has_slot (cell_slot a)) b (q - 1) there.0 there.1) in
+            let inside = pick_in (has_slot (cell_slot a)) b (q - 1) there.0 there.1 in
+            (subst (λ (z : ℕ). z < k.slots) whose (r'.slotted inside.0 there.0 inside.1), ranged j near held_j);
         resolved = λ j near held_j.
             let a : ℕ = get_or v.entry (2 * j + 1) 0 in
             let q : ℕ = get_or v.entry (2 * j + 2) 0 in
@@ -325,6 +340,12 @@ module _ {M : Type 0} (stands : ℕ → M → List Sent → Type 0) (given : ℕ
             (pick_end (is_of i) b e m u at_m);
         home = home_longer i i b e (c.done i) s.homes (c.turn i) behind in_i'.home;
       } in
+      let low : (m : ℕ) → m < k.components → c.shown (slot_of v.entry) m < gen_of v.entry = λ m near_m.
+      let old = r'.shown_is (slot_of v.entry) m slot_near near_m in
+      ⊎_elim (λ (z : get_or s.words (component_word k (slot_of v.entry) m) 0 / 2 ^ 32 ≡ 0). omega arith)
+      (λ (z : (u : Entry) × (get_elem? (issued (slot_of v.entry) b) (get_or s.words (component_word k (slot_of v.entry) m) 0 / 2 ^ 32 - 1) ≡ some u) × (get_or s.words (component_word k (slot_of v.entry) m) 0 % 2 ^ 32 ≡ get_or u.outs m 0)).
+      let h = in_issued (issued (slot_of v.entry) b) (get_or s.words (component_word k (slot_of v.entry) m) 0 / 2 ^ 32) z.0 z.1 in omega arith)
+      (r'.each_component (slot_of v.entry) m slot_near near_m) in
       let other_inst : (j : ℕ) (u : Site) → get_elem? k.sites j ≡ some u → j ≢ i → Inst (stands j) given k b' j u (c.done j) (c.turn j) words' s.homes = λ j u there other.
       let in_j = r'.each_instance j u there in
       let stays = inst_stays (stands j) given k b j u (c.done j) (c.done j) (c.turn j) (c.turn j) s.words s.homes s.homes p x (r.placed.roomy j u there) (outside k r.placed i j t u p here there (λ z. other (sym z)) (omega arith) (omega arith)) refl refl refl in_j in
@@ -371,6 +392,8 @@ module _ {M : Type 0} (stands : ℕ → M → List Sent → Type 0) (given : ℕ
                 ⊎_elim (λ (h : get_elem? (calls j b) n ≡ some u). r'.full j n m u near less h inside)
                 (λ (h : (n ≡ length (calls j b)) × (e ≡ u) × (is_of j e ≡ true)). let z = h.0 in absurd (omega arith))
                 (pick_end (is_of j) b e n u at_n);
+            fills = fills_publish k b c.done c.turn c.filled c.shown r'.fills e (λ j n u near from at_n. (unnamed j n u (le_trans (seen_done j) from) at_n).0) low;
+            once = (r.once.0, once_stays (length k.sites) c.done r.once.0 s.views id v w at refl r.once.1);
             numbered = numbered';
             slotted = slotted';
             named = λ j near. named_stays s.views id v w j (c.turn j) at refl (λ n y z. (n, y, z, refl)) (r.named j near);
@@ -395,7 +418,7 @@ module _ {M : Type 0} (stands : ℕ → M → List Sent → Type 0) (given : ℕ
         w,
         keeps,
         tt,
-        seen stands given k c s r p id me.1 v w at (knows_as k c id w Offers role (glimpse c id v p x mine)) refl (λ n y e. (n, y, e, refl)),
+        seen stands given k c s r p id me.1 v w at (knows_as k c id w Offers role (glimpse c id v p x mine)) refl (λ n y e. (n, y, e, refl)) refl,
         (
           refl,
           λ q m near near' e some_gen.
@@ -417,7 +440,7 @@ module _ {M : Type 0} (stands : ℕ → M → List Sent → Type 0) (given : ℕ
     where
       jobs_raise : (c : Core) (j : ℕ) (js : List Work) → Jobs k c j js → Jobs k (record c { mark = 1 }) j js
       jobs_raise c j [] b = tt
-      jobs_raise c j (y ∷ ys) b = (record { site = b.0.site; holds = b.0.holds; before = b.0.before; call = b.0.call; read = b.0.read; filled = b.0.filled }, jobs_raise c j ys b.1)
+      jobs_raise c j (y ∷ ys) b = (record { site = b.0.site; holds = b.0.holds; before = b.0.before; call = b.0.call; read = b.0.read; filled = b.0.filled; lists = b.0.lists }, jobs_raise c j ys b.1)
   others_raise c j v Rests two other kn = kn
 
   pub raises : (n id : ℕ) (me : Sat) → me.0.role ≡ Offers → me.0.entry ≡ [] → Allows Keeps n id me 0 (λ _. 1) (λ _. raised (step n 0 1 0 none) me 1)
@@ -445,6 +468,8 @@ module _ {M : Type 0} (stands : ℕ → M → List Sent → Type 0) (given : ℕ
             each_component = λ q m near near'. subst (Shown c.book q m) (sym (get_or-set_other s.words 0 (component_word k q m) 1 0 (λ z. omega arith))) (r.each_component q m near near');
             shown_is = λ q m near near'. ap (λ (z : ℕ). z / 2 ^ 32) (get_or-set_other s.words 0 (component_word k q m) 1 0 (λ z. omega arith)) ∙ r.shown_is q m near near';
             full = r.full;
+            fills = r.fills;
+            once = (r.once.0, once_stays (length k.sites) c.done r.once.0 s.views id v w at refl r.once.1);
             numbered = r.numbered;
             slotted = r.slotted;
             named = λ j near. named_stays s.views id v w j (c.turn j) at refl (λ n y z. (n, y, z, refl)) (r.named j near);

@@ -15,12 +15,15 @@ use Rattle.station_rule.specs.declared.layout.Site.{Site}
 use Rattle.station_rule.specs.declared.view.Sent.{Sent}
 use Rattle.station_rule.specs.declared.view.Entry.{Entry}
 use Rattle.station_rule.specs.declared.view.Work.{Work}
+use Rattle.station_rule.specs.declared.view.Finished.{Finished}
 use Rattle.station_rule.specs.declared.view.View.{View}
 use Rattle.station_rule.specs.declared.view.Role.{Role}
 use Rattle.station_rule.specs.declared.view.Role.TheVariants.{Offers, Serves, Rests}
 use Rattle.station_rule.specs.Book.{is_of, slot_of, gen_of, calls, issued, sents, IsHeld, cell_slot, cell_component, EachHandle}
-use Rattle.station_rule.specs.Core.{Turn, free, held, up, put, Core, site_end, place, component_word, Written, Entered, Live, AtHome, Inst, Shown, IsJob, Jobs, Misses, Apart, IsServers, Knows, Named, Shows, Lawful}
-use Rattle.station_rule.specs.Steps.{saw, job_of, rest_jobs, marked, glanced, checked, took, read, fetched, filled, finished}
+use Rattle.station_rule.proofs.Once.{once_stays, once_more}
+use Rattle.station_rule.proofs.Filled.{fills_take, fills_fill, fills_finish}
+use Rattle.station_rule.specs.Core.{Turn, free, held, up, put, Core, site_end, place, component_word, InRange, Written, Entered, Live, AtHome, Inst, Shown, IsJob, Jobs, Misses, Apart, IsServers, Knows, Named, Shows, Lawful}
+use Rattle.station_rule.specs.Steps.{saw, job_of, last_job, rest_jobs, marked, glanced, checked, took, read, fetched, filled, finished}
 use Rattle.station_rule.proofs.Lists.{off_place, off_head, one_site, one_place, outside, place_below, component_below, some_below, some_at, take_next, set_there, at_end, written_else, put_here, put_else, put_at, put_at_here, put_at_else, put_at_grows, in_issued}
 use Rattle.station_rule.proofs.Kept.{Seats, seats_stay, knows_as, named_stays, SameJobs, jobs_move, others_move, inst_stays, knows, seen, moved, begun_stays, half}
 
@@ -77,7 +80,7 @@ module _ {M : Type 0} (stands : ℕ → M → List Sent → Type 0) (given : ℕ
         w,
         keeps,
         tt,
-        seen stands given k c s r p id me.1 v w at (knows_as k c id w Serves role record { layout = mine.layout; done = omega arith; tail = omega arith; closed = mine.closed; jobs = mine.jobs; apart = mine.apart; few = mine.few }) refl (λ n y e. (n, y, e, refl)),
+        seen stands given k c s r p id me.1 v w at (knows_as k c id w Serves role record { layout = mine.layout; done = omega arith; tail = omega arith; closed = mine.closed; jobs = mine.jobs; apart = mine.apart; few = mine.few }) refl (λ n y e. (n, y, e, refl)) refl,
         λ j u at' e.
             let there : get_elem? k.sites j ≡ some u = subst (λ (l : Key). get_elem? l.sites j ≡ some u) mine.layout at' in
             ap (λ (z : ℕ). (record v { at = z; done = x / 2; tail = 0; looks = saw v p x }, me.1)) (one_site k r.placed i j t u p here there (omega arith) (omega arith) (omega arith) (omega arith)),
@@ -98,7 +101,7 @@ module _ {M : Type 0} (stands : ℕ → M → List Sent → Type 0) (given : ℕ
         keeps,
         tt,
         seen stands given k c s r p id me.1 v w at
-            (knows_as k c id w Serves role record { layout = mine.layout; done = mine.done; tail = subst (λ (z : ℕ). x ≤ length (calls z c.book)) (sym at_i) (omega arith); closed = mine.closed; jobs = mine.jobs; apart = mine.apart; few = mine.few }) refl (λ n y e. (n, y, e, refl)),
+            (knows_as k c id w Serves role record { layout = mine.layout; done = mine.done; tail = subst (λ (z : ℕ). x ≤ length (calls z c.book)) (sym at_i) (omega arith); closed = mine.closed; jobs = mine.jobs; apart = mine.apart; few = mine.few }) refl (λ n y e. (n, y, e, refl)) refl,
         λ j u at' e same.
             let is : j ≡ i = same ∙ at_i in (
               refl,
@@ -115,7 +118,7 @@ module _ {M : Type 0} (stands : ℕ → M → List Sent → Type 0) (given : ℕ
       let is = r.mark_is in
       let two = r.marks.0 in
       let w : View = record v { closed = x; looks = saw v 0 x } in
-      (w, keeps, tt, seen stands given k c s r 0 id me.1 v w at (knows_as k c id w Serves role record { layout = mine.layout; done = mine.done; tail = mine.tail; closed = omega arith; jobs = mine.jobs; apart = mine.apart; few = mine.few }) refl (λ n y e. (n, y, e, refl)), (refl, omega arith))
+      (w, keeps, tt, seen stands given k c s r 0 id me.1 v w at (knows_as k c id w Serves role record { layout = mine.layout; done = mine.done; tail = mine.tail; closed = omega arith; jobs = mine.jobs; apart = mine.apart; few = mine.few }) refl (λ n y e. (n, y, e, refl)) refl, (refl, omega arith))
 
   pub takes_turn : (n id : ℕ) (me : Sat) (i : ℕ) (t : Site) (old new : ℕ) → me.0.role ≡ Serves → length me.0.jobs < 8 → me.0.at ≡ i → get_elem? k.sites i ≡ some t → old ≡ 2 * me.0.done → new ≡ 2 * me.0.done + 1 → me.0.done < me.0.tail
       → Allows Keeps n id me (t.start + 1) (λ y. either (eqb y old) new y) (took stands given (step n (t.start + 1) old new none) me)
@@ -152,15 +155,15 @@ module _ {M : Type 0} (stands : ℕ → M → List Sent → Type 0) (given : ℕ
       let mine' : turn' i ≡ held id = put_here c.turn i (held id) in
       let missed : Misses i v.jobs = λ o z e h. let bad : free ≡ held id = sym now.0 ∙ ap c.turn (sym h) ∙ (job_at k c id v.jobs mine.jobs o z e).holds in absurd (cc) in
       let job : IsJob k (record c { turn = turn' }) id x = subst
-      (λ (z : ℕ). (z < length k.sites) × (turn' z ≡ held id) × (take d cs ≡ take (c.done z) (calls z c.book)) × (get_elem? (calls z c.book) (c.done z) ≡ some e) → IsJob k (record c { turn = turn' }) id x) of_i
-      (λ h. record { site = h.0; holds = h.1; before = h.2; call = h.3; read = λ o z e'. absurd (some-ne-none z (sym e')); filled = λ o z e'. absurd (some-ne-none z (sym e')) })
-      (some_below k.sites i t here, mine', refl, next.1) in (
+      (λ (z : ℕ). (z < length k.sites) × (turn' z ≡ held id) × (take d cs ≡ take (c.done z) (calls z c.book)) × (get_elem? (calls z c.book) (c.done z) ≡ some e) × ([] ≡ c.filled z) → IsJob k (record c { turn = turn' }) id x) of_i
+      (λ h. record { site = h.0; holds = h.1; before = h.2; call = h.3; read = λ o z e'. absurd (some-ne-none z (sym e')); filled = λ o z e'. absurd (some-ne-none z (sym e')); lists = h.4 })
+      (some_below k.sites i t here, mine', refl, next.1, sym (r.fills.idle i (some_below k.sites i t here) now.0)) in (
         w,
         takes i (Some kept.0),
         kept.1,
         (
           record c { turn = turn' },
-          moved stands given k c s r i t p new c.at c.entry c.done turn' (set s.homes i none) (set s.views id w) here (omega arith) (omega arith) (λ j other. (refl, put_else c.turn i j (held id) other)) (length-set s.homes i none)
+          moved stands given k c s r i t p new c.at c.entry c.done turn' c.filled (set s.homes i none) (set s.views id w) here (omega arith) (omega arith) (λ j other. (refl, put_else c.turn i j (held id) other)) (length-set s.homes i none)
               (λ j other. set_else s.homes i j none other) r.marks.1
               (subst (λ (z : Turn). Inst (stands i) given k c.book i t d z (set s.words p new) (set s.homes i none)) (sym mine') record {
                 tail_is = get_or-set_other s.words p t.start new 0 (λ e. omega arith) ∙ in_i.tail_is;
@@ -180,10 +183,11 @@ module _ {M : Type 0} (stands : ℕ → M → List Sent → Type 0) (given : ℕ
               (λ same. subst (λ (z : Turn). Named (set s.views id w) j z) (sym (ap turn' same ∙ mine')) (w, set_there s.views id v w at, role, (0, x, refl, of_i ∙ sym same)))
               (λ other. subst (λ (z : Turn). Named (set s.views id w) j z) (sym (put_else c.turn i j (held id) other)) (named_stays s.views id v w j (c.turn j) at refl (λ o z e'. (suc o, z, e', refl)) (r.named j near))))
               (seats_stay k (record c { turn = turn' }) s.views id w
-              (knows_as k (record c { turn = turn' }) id w Serves role record { layout = mine.layout; done = mine.done; tail = mine.tail; closed = mine.closed; jobs = (job, jobs_move k c c.at c.entry c.done turn' id v.jobs (λ o z e h. (put_else c.turn i z.call.instance (held id) (missed o z e) ∙ h, refl)) mine.jobs); apart = (λ o z e h. missed o z e (h ∙ of_i), mine.apart); few = omega arith })
-              (λ j u other e. others_move k c c.at c.entry c.done turn' j u u.role (λ _. (refl, refl)) (λ z. le_refl (c.done z))
-              (λ z h. dite (ℕ_discrete z i) (λ same. let bad : free ≡ held j = sym now.0 ∙ ap c.turn (sym same) ∙ h in absurd (cc)) (λ apart. (put_else c.turn i z (held id) apart ∙ h, refl)))
-              (r.each_seat j u e))),
+              (knows_as k (record c { turn = turn' }) id w Serves role record { layout = mine.layout; done = mine.done; tail = mine.tail; closed = mine.closed; jobs = (job, jobs_move k c c.at c.entry c.done turn' c.filled id v.jobs (λ o z e h. (put_else c.turn i z.call.instance (held id) (missed o z e) ∙ h, refl, refl)) mine.jobs); apart = (λ o z e h. missed o z e (h ∙ of_i), mine.apart); few = omega arith })
+              (λ j u other e. others_move k c c.at c.entry c.done turn' c.filled j u u.role (λ _. (refl, refl)) (λ z. le_refl (c.done z))
+              (λ z h. dite (ℕ_discrete z i) (λ same. let bad : free ≡ held j = sym now.0 ∙ ap c.turn (sym same) ∙ h in absurd (cc)) (λ apart. (put_else c.turn i z (held id) apart ∙ h, refl, refl)))
+              (r.each_seat j u e)))
+              (fills_take k c.book c.done c.turn c.filled c.shown r.fills i id) (r.once.0, once_stays (length k.sites) c.done r.once.0 s.views id v w at refl r.once.1),
         ),
         (λ j u at' e'.
             let same : i ≡ j = which j u at' e' in
@@ -202,6 +206,9 @@ module _ {M : Type 0} (stands : ℕ → M → List Sent → Type 0) (given : ℕ
                 omega arith,
                 subst (λ (z : ℕ). stands z kept.0 (sents (take d cs))) same kept.2,
                 subst (λ (z : ℕ). e.outs ≡ given z (sents (take d cs) ++ e.sent ∷ [])) same entered.answers,
+                subst (λ (h : Key). slot_of e.words < h.slots) (sym mine.layout) entered.slot,
+                entered.first,
+                subst (λ (h : Key). InRange h e.words) (sym mine.layout) entered.in_range,
               ),
               λ miss. absurd (miss hit),
             )),
@@ -213,7 +220,7 @@ module _ {M : Type 0} (stands : ℕ → M → List Sent → Type 0) (given : ℕ
         keeps,
         tt,
         seen stands given k c s r p id me.1 v w at
-            (knows_as k c id w Serves role record { layout = mine.layout; done = subst (λ (z : ℕ). y / 2 ≤ c.done z) (sym at_i) (omega arith); tail = mine.tail; closed = mine.closed; jobs = mine.jobs; apart = mine.apart; few = mine.few }) refl (λ n z e. (n, z, e, refl)),
+            (knows_as k c id w Serves role record { layout = mine.layout; done = subst (λ (z : ℕ). y / 2 ≤ c.done z) (sym at_i) (omega arith); tail = mine.tail; closed = mine.closed; jobs = mine.jobs; apart = mine.apart; few = mine.few }) refl (λ n z e. (n, z, e, refl)) refl,
         λ j u at' e. ((λ hit. absurd (miss hit)), λ _. refl),
       ))
 
@@ -247,12 +254,13 @@ module _ {M : Type 0} (stands : ℕ → M → List Sent → Type 0) (given : ℕ
         call = b.call;
         read = λ j z e. ⊎_elim (λ (h : (j < length x.read) × (get_elem? x.read j ≡ some z)). b.read j z h.1) (λ (h : (j ≡ length x.read) × (y ≡ z)). ap (get_elem? x.call.words) h.0 ∙ next ∙ ap some h.1) (at_end x.read y z j e);
         filled = b.filled;
+        lists = b.lists;
       } in (
         w,
         keeps,
         tt,
         seen stands given k c s r p id me.1 v w at (knows_as k c id w Serves role record { layout = mine.layout; done = mine.done; tail = mine.tail; closed = mine.closed; jobs = (job', all_jobs.1); apart = own_apart; few = omega arith }) refl
-            (same_jobs v w x x' js refl has refl),
+            (same_jobs v w x x' js refl has refl) refl,
         subst (λ (u : View). read (step n p 0 0 none) me y (u, me.1)) same (refl, ap (λ (js : List Work). get_elem? (job_of (record v { jobs = js })).call.words (length (job_of (record v { jobs = js })).read)) has ∙ next),
       )
 
@@ -274,7 +282,7 @@ module _ {M : Type 0} (stands : ℕ → M → List Sent → Type 0) (given : ℕ
         w,
         keeps,
         tt,
-        seen stands given k c s r p id me.1 v w at (knows_as k c id w Serves role record { layout = mine.layout; done = mine.done; tail = mine.tail; closed = mine.closed; jobs = mine.jobs; apart = mine.apart; few = mine.few }) refl (λ n z e. (n, z, e, refl)),
+        seen stands given k c s r p id me.1 v w at (knows_as k c id w Serves role record { layout = mine.layout; done = mine.done; tail = mine.tail; closed = mine.closed; jobs = mine.jobs; apart = mine.apart; few = mine.few }) refl (λ n z e. (n, z, e, refl)) refl,
         (
           refl,
           λ q m near near' e.
@@ -297,15 +305,15 @@ module _ {M : Type 0} (stands : ℕ → M → List Sent → Type 0) (given : ℕ
         ),
       )
 
-  jobs_fill : (c : Core) (shown' : ℕ → ℕ → ℕ) → ((q m : ℕ) → c.shown q m ≤ shown' q m) → (j : ℕ) (js : List Work) → Jobs k c j js → Jobs k (record c { shown = shown' }) j js
-  jobs_fill c shown' grow j [] b = tt
-  jobs_fill c shown' grow j (y ∷ ys) b =
-      (record { site = b.0.site; holds = b.0.holds; before = b.0.before; call = b.0.call; read = b.0.read; filled = λ o m e. le_trans (b.0.filled o m e) (grow (slot_of y.call.words) m) }, jobs_fill c shown' grow j ys b.1)
+  jobs_fill : (c : Core) (shown' : ℕ → ℕ → ℕ) (filled' : ℕ → List ℕ) → ((q m : ℕ) → c.shown q m ≤ shown' q m) → (j : ℕ) (js : List Work) → ((n : ℕ) (x : Work) → get_elem? js n ≡ some x → c.turn x.call.instance ≡ held j → filled' x.call.instance ≡ c.filled x.call.instance) → Jobs k c j js → Jobs k (record c { shown = shown'; filled = filled' }) j js
+  jobs_fill c shown' filled' grow j [] keep b = tt
+  jobs_fill c shown' filled' grow j (y ∷ ys) keep b =
+      (record { site = b.0.site; holds = b.0.holds; before = b.0.before; call = b.0.call; read = b.0.read; filled = λ o m e. le_trans (b.0.filled o m e) (grow (slot_of y.call.words) m); lists = b.0.lists ∙ sym (keep 0 y refl b.0.holds) }, jobs_fill c shown' filled' grow j ys (λ n. keep (suc n)) b.1)
 
-  others_fill : (c : Core) (shown' : ℕ → ℕ → ℕ) → ((q m : ℕ) → c.shown q m ≤ shown' q m) → (j : ℕ) (v : View) (role : Role) → Knows k c j v role → Knows k (record c { shown = shown' }) j v role
-  others_fill c shown' grow j v Offers kn = record { layout = kn.layout; seat = kn.seat; book = kn.book; at = kn.at; entry = kn.entry; wide = kn.wide; seen = kn.seen; closed = kn.closed; jobs = kn.jobs }
-  others_fill c shown' grow j v Serves kn = record { layout = kn.layout; done = kn.done; tail = kn.tail; closed = kn.closed; jobs = jobs_fill c shown' grow j v.jobs kn.jobs; apart = kn.apart; few = kn.few }
-  others_fill c shown' grow j v Rests kn = kn
+  others_fill : (c : Core) (shown' : ℕ → ℕ → ℕ) (filled' : ℕ → List ℕ) → ((q m : ℕ) → c.shown q m ≤ shown' q m) → (j : ℕ) (v : View) (role : Role) → ((i : ℕ) → c.turn i ≡ held j → filled' i ≡ c.filled i) → Knows k c j v role → Knows k (record c { shown = shown'; filled = filled' }) j v role
+  others_fill c shown' filled' grow j v Offers keep kn = record { layout = kn.layout; seat = kn.seat; book = kn.book; at = kn.at; entry = kn.entry; wide = kn.wide; seen = kn.seen; closed = kn.closed; jobs = kn.jobs }
+  others_fill c shown' filled' grow j v Serves keep kn = record { layout = kn.layout; done = kn.done; tail = kn.tail; closed = kn.closed; jobs = jobs_fill c shown' filled' grow j v.jobs (λ _ x _. keep x.call.instance) kn.jobs; apart = kn.apart; few = kn.few }
+  others_fill c shown' filled' grow j v Rests keep kn = kn
 
   -- the server fills a component of its job
   pub fills : (n id : ℕ) (me : Sat) (x : Work) (js : List Work) (t : Site) (m value p new : ℕ) → me.0.role ≡ Serves → me.0.jobs ≡ x ∷ js → get_elem? k.sites x.call.instance ≡ some t → m < k.components → p ≡ component_word k (slot_of x.call.words) m
@@ -332,7 +340,8 @@ module _ {M : Type 0} (stands : ℕ → M → List Sent → Type 0) (given : ℕ
       let val : new % 2 ^ 32 ≡ value = omega arith in
       let g : ℕ = gen_of x.call.words in
       let shown' : ℕ → ℕ → ℕ = put_at c.shown q m g in
-      let c' : Core = record c { shown = shown' } in
+      let filled' : ℕ → List ℕ = put c.filled i (c.filled i ++ m ∷ []) in
+      let c' : Core = record c { shown = shown'; filled = filled' } in
       let live = ((r.each_instance i t here).live (c.done i) x.call (le_refl (c.done i)) b.call).own in
       let old = r.shown_is q m near_q near in
       let low : c.shown q m ≤ g = ⊎_elim (λ (z : get_or s.words (component_word k q m) 0 / 2 ^ 32 ≡ 0). omega arith)
@@ -370,6 +379,8 @@ module _ {M : Type 0} (stands : ℕ → M → List Sent → Type 0) (given : ℕ
                 ap (λ (z : ℕ). get_or words' z 0 / 2 ^ 32) e ∙ ap (λ (z : ℕ). z / 2 ^ 32) (get_or-set_same s.words p new 0 (omega arith)) ∙ gen ∙ sym (put_at_here c.shown q m g) ∙ (λ z. shown' (sym one.0 z) (sym one.1 z)))
                 (λ other. ap (λ (z : ℕ). z / 2 ^ 32) (get_or-set_other s.words p (component_word k q' m') new 0 other) ∙ r.shown_is q' m' near' near'' ∙ sym (put_at_else c.shown q m g q' m' (λ two. other ((λ z. component_word k (two.0 z) (two.1 z)) ∙ sym is))));
             full = λ j n o u near' less at_n inside. le_trans (r.full j n o u near' less at_n inside) (grow (slot_of u.words) o);
+            fills = fills_fill k c.book c.done c.turn c.filled c.shown r.fills i m id x.call (some_below k.sites i t here) b.call b.holds;
+            once = (r.once.0, once_stays (length k.sites) c.done r.once.0 s.views id v w at refl r.once.1);
             numbered = r.numbered;
             slotted = r.slotted;
             named = λ j near'. named_stays s.views id v w j (c.turn j) at refl (same_jobs v w x x' js refl has refl) (r.named j near');
@@ -388,13 +399,15 @@ module _ {M : Type 0} (stands : ℕ → M → List Sent → Type 0) (given : ℕ
                       read = b.read;
                       filled = λ o y e. ⊎_elim (λ (h : (o < length x.filled) × (get_elem? x.filled o ≡ some y)). le_trans (b.filled o y h.1) (grow q y))
                           (λ (h : (o ≡ length x.filled) × (m ≡ y)). subst (λ (z : ℕ). g ≤ shown' q z) h.1 (let z = put_at_here c.shown q m g in omega arith)) (at_end x.filled m y o e);
+                      lists = ap (λ (l : List ℕ). l ++ m ∷ []) b.lists ∙ sym (put_here c.filled i (c.filled i ++ m ∷ []));
                     },
-                    jobs_fill c shown' grow id js all_jobs.1,
+                    jobs_fill c shown' filled' grow id js (λ o z e _. put_else c.filled i z.call.instance (c.filled i ++ m ∷ []) (own_apart.0 o z e)) all_jobs.1,
                   );
                   apart = own_apart;
                   few = omega arith;
                 })
-                (λ j u _ e. others_fill c shown' grow j u u.role (r.each_seat j u e));
+                (λ j u other e. others_fill c shown' filled' grow j u u.role
+                (λ z h. put_else c.filled i z (c.filled i ++ m ∷ []) (λ same. other (same_holder j id (sym h ∙ ap c.turn same ∙ b.holds)))) (r.each_seat j u e));
           },
         ),
         λ q' m' near' near'' e.
@@ -419,7 +432,8 @@ module _ {M : Type 0} (stands : ℕ → M → List Sent → Type 0) (given : ℕ
       let own_few = mine.few in
       let own_count = ap length has in
       let in_i = r.each_instance i t here in
-      let w : View = record v { jobs = js } in
+      let listed : Finished = record { instance = i; number = length x.before + 1 } in
+      let w : View = record v { jobs = js; finished = v.finished ++ listed ∷ [] } in
       let wide = r.wide in
       let last = r.placed.last i t here in
       let near = some_below k.sites i t here in
@@ -432,14 +446,15 @@ module _ {M : Type 0} (stands : ℕ → M → List Sent → Type 0) (given : ℕ
       let longer : sents (take (d + 1) all) ≡ sents x.before ++ x.call.sent ∷ [] = ap sents (take_next all d x.call b.call) ∙ sents-push (take d all) x.call ∙ ap (λ (z : List Entry). sents z ++ x.call.sent ∷ []) (sym b.before) in
       let done' : ℕ → ℕ = put c.done i (d + 1) in
       let turn' : ℕ → Turn = put c.turn i free in
-      let c' : Core = record c { done = done'; turn = turn' } in
+      let filled' : ℕ → List ℕ = put c.filled i [] in
+      let c' : Core = record c { done = done'; turn = turn'; filled = filled' } in
       let homes' = set s.homes i (some (Some m)) in
       let back : put_back s.homes me.1 ≡ homes' = ap (put_back s.homes) out in
       let words' : List ℕ = set s.words p new in
       let up_one : (z : ℕ) → c.done z ≤ done' z = λ z. dite (ℕ_discrete z i)
       (λ same. let h : done' z ≡ d + 1 = ap done' same ∙ put_here c.done i (d + 1) in let h' : c.done z ≡ d = ap c.done same in omega arith)
       (λ other. let h = put_else c.done i z (d + 1) other in omega arith) in
-      let shows : Shows stands given k c' record { words = words'; homes = homes'; views = set s.views id w } = moved stands given k c s r i t p new c.at c.entry done' turn' homes' (set s.views id w) here (omega arith) (omega arith)
+      let shows : Shows stands given k c' record { words = words'; homes = homes'; views = set s.views id w } = moved stands given k c s r i t p new c.at c.entry done' turn' filled' homes' (set s.views id w) here (omega arith) (omega arith)
       (λ j other. (put_else c.done i j (d + 1) other, put_else c.turn i j free other)) (length-set s.homes i (some (Some m))) (λ j other. set_else s.homes i j (some (Some m)) other) r.marks.1
       (subst (λ (z : ℕ × Turn). Inst (stands i) given k c.book i t z.0 z.1 words' homes') (λ y. (sym (put_here c.done i (d + 1)) y, sym (put_here c.turn i free) y)) record {
         tail_is = get_or-set_other s.words p t.start new 0 (λ e. omega arith) ∙ in_i.tail_is;
@@ -469,11 +484,13 @@ module _ {M : Type 0} (stands : ℕ → M → List Sent → Type 0) (given : ℕ
       (λ same. subst (λ (z : Turn). Named (set s.views id w) j z) (sym (ap turn' same ∙ put_here c.turn i free)) tt)
       (λ other. subst (λ (z : Turn). Named (set s.views id w) j z) (sym (put_else c.turn i j free other)) (named_else v w j other s.views at has refl refl (c.turn j) (r.named j near'))))
       (seats_stay k c' s.views id w
-      (knows_as k c' id w Serves role record { layout = mine.layout; done = le_trans mine.done (up_one v.at); tail = mine.tail; closed = mine.closed; jobs = jobs_move k c c.at c.entry done' turn' id js (λ o z e h. (put_else c.turn i z.call.instance free (own_apart.0 o z e) ∙ h, put_else c.done i z.call.instance (d + 1) (own_apart.0 o z e))) all_jobs.1; apart = own_apart.1; few = omega arith })
-      (λ j u other e. others_move k c c.at c.entry done' turn' j u u.role (λ _. (refl, refl)) up_one
-      (λ z h. dite (ℕ_discrete z i) (λ same. absurd (other (same_holder j id (sym h ∙ ap c.turn same ∙ b.holds)))) (λ apart. (put_else c.turn i z free apart ∙ h, put_else c.done i z (d + 1) apart)))
-      (r.each_seat j u e))) in
-      (w, gives, tt, (c', subst (λ (hs : List (maybe.Option (Option M))). Shows stands given k c' record { words = words'; homes = hs; views = set s.views id w }) (sym back) shows), ap (λ (l : List Work). (record v { jobs = l }, rest me.1)) (sym (ap rest_jobs has)))
+      (knows_as k c' id w Serves role record { layout = mine.layout; done = le_trans mine.done (up_one v.at); tail = mine.tail; closed = mine.closed; jobs = jobs_move k c c.at c.entry done' turn' filled' id js (λ o z e h. (put_else c.turn i z.call.instance free (own_apart.0 o z e) ∙ h, put_else c.done i z.call.instance (d + 1) (own_apart.0 o z e), put_else c.filled i z.call.instance [] (own_apart.0 o z e))) all_jobs.1; apart = own_apart.1; few = omega arith })
+      (λ j u other e. others_move k c c.at c.entry done' turn' filled' j u u.role (λ _. (refl, refl)) up_one
+      (λ z h. dite (ℕ_discrete z i) (λ same. absurd (other (same_holder j id (sym h ∙ ap c.turn same ∙ b.holds)))) (λ apart. (put_else c.turn i z free apart ∙ h, put_else c.done i z (d + 1) apart, put_else c.filled i z [] apart)))
+      (r.each_seat j u e)))
+      (fills_finish k c.book c.done c.turn c.filled c.shown r.fills i)
+      (put r.once.0 i (put (r.once.0 i) d (id, length v.finished)), once_more (length k.sites) c.done r.once.0 s.views id i v w at near (λ z. v.finished ++ record { instance = i; number = number z + 1 } ∷ []) r.once.1) in
+      (w, gives, tt, (c', subst (λ (hs : List (maybe.Option (Option M))). Shows stands given k c' record { words = words'; homes = hs; views = set s.views id w }) (sym back) shows), ap (λ (l : List Work). (record v { jobs = rest_jobs l; finished = v.finished ++ record { instance = (last_job l).call.instance; number = length (last_job l).before + 1 } ∷ [] }, rest me.1)) (sym has))
     where
       named_else : (v w : View) (j : ℕ) → j ≢ x.call.instance → (vs : List View) → get_elem? vs id ≡ some v → v.jobs ≡ x ∷ js → w.role ≡ v.role → w.jobs ≡ js → (o : Turn) → Named vs j o → Named (set vs id w) j o
       named_else v w j other vs at has same_role left free n = tt

@@ -9,6 +9,7 @@ use Rattle.station_rule.specs.Key.{Key}
 use Rattle.station_rule.specs.declared.view.Sent.{Sent}
 use Rattle.station_rule.specs.declared.view.Entry.{Entry}
 use Rattle.station_rule.specs.declared.view.Work.{Work}
+use Rattle.station_rule.specs.declared.view.Finished.{Finished}
 use Rattle.station_rule.specs.declared.view.View.{View}
 use Rattle.station_rule.specs.declared.view.Role.{Role}
 use Rattle.station_rule.specs.declared.view.Role.TheVariants.{Offers, Serves, Rests}
@@ -25,7 +26,7 @@ up (held j) = 1
 abbrev pub put : {A : Type 0} → (ℕ → A) → ℕ → A → ℕ → A
 put f i a j = cond (j == i) a (f j)
 
--- the book; the instance and the words of the entry that is being written; the close mark; for each instance how many calls are done, and who holds its turn; for each slot and component the generation that it shows; the owner's seat
+-- the book; the instance and the words of the entry that is being written; the close mark; for each instance how many calls are done, and who holds its turn; for each slot and component the generation that it shows; for each instance the components that the holder of its turn filled; the owner's seat
 pub record Core : Type 0 where
   pub book : List Entry
   pub at : ℕ
@@ -34,6 +35,7 @@ pub record Core : Type 0 where
   pub done : ℕ → ℕ
   pub turn : ℕ → Turn
   pub shown : ℕ → ℕ → ℕ
+  pub filled : ℕ → List ℕ
   pub owner : ℕ
 
 -- the words of an instance
@@ -67,6 +69,10 @@ pub record Placed (k : Key) : Type 0 where
 abbrev pub Written : Site → List ℕ → ℕ → List ℕ → Type 0
 Written t words n c = (j x : ℕ) → get_elem? c j ≡ some x → slice_index words (place t n j) ≡ x
 
+-- each handle among the inputs has a slot and a component that there are
+abbrev pub InRange : Key → List ℕ → Type 0
+InRange k ws = EachHandle ws (λ j a b. (cell_slot a < k.slots) × (cell_component a < k.components))
+
 -- the call number n of the instance i
 pub record Entered (given : ℕ → List Sent → List ℕ) (k : Key) (book : List Entry) (i : ℕ) (t : Site) (n : ℕ) (e : Entry) : Type 0 where
   pub here : e.instance ≡ i
@@ -75,6 +81,7 @@ pub record Entered (given : ℕ → List Sent → List ℕ) (k : Key) (book : Li
   pub first : 0 < gen_of e.words
   pub given_slot : get_elem? (issued (slot_of e.words) book) (gen_of e.words - 1) ≡ some e
   pub sent_as : IsSentAs e.words e.sent
+  pub in_range : InRange k e.words
   pub resolved : EachHandle e.words (λ j a b. (0 < b) × ((u : Entry) × (get_elem? (issued (cell_slot a) book) (b - 1) ≡ some u) × (slice_index e.sent.values j ≡ slice_index u.outs (cell_component a))))
   pub answers : e.outs ≡ given i (sents (take n (calls i book)) ++ e.sent ∷ [])
 
@@ -113,6 +120,17 @@ Slotted n book = (m : ℕ) (e : Entry) → get_elem? book m ≡ some e → slot_
 abbrev pub Numbered : List Entry → Type 0
 Numbered book = (s g : ℕ) (e : Entry) → get_elem? (issued s book) g ≡ some e → gen_of e.words ≡ g + 1
 
+-- a slot is of at most one call that isn't done; a call that isn't done shows a component only if it is the next one, and the holder of its turn filled that component
+pub record Fills (k : Key) (book : List Entry) (done : ℕ → ℕ) (turn : ℕ → Turn) (filled : ℕ → List ℕ) (shown : ℕ → ℕ → ℕ) : Type 0 where
+  pub slots : (i j n m : ℕ) (e u : Entry) → i < length k.sites → j < length k.sites → done i ≤ n → done j ≤ m → get_elem? (calls i book) n ≡ some e → get_elem? (calls j book) m ≡ some u → slot_of e.words ≡ slot_of u.words → (i ≡ j) × (n ≡ m)
+  pub listed : (i n m : ℕ) (e : Entry) → i < length k.sites → done i ≤ n → get_elem? (calls i book) n ≡ some e → m < k.components → gen_of e.words ≤ shown (slot_of e.words) m → (n ≡ done i) × ((o : ℕ) × (get_elem? (filled i) o ≡ some m))
+  pub idle : (i : ℕ) → i < length k.sites → turn i ≡ free → filled i ≡ []
+
+-- each call that is done stands in the list of finished calls of one seat, at one place, and nothing else stands in these lists; finisher says where
+pub record Once (sites : ℕ) (done : ℕ → ℕ) (finisher : ℕ → ℕ → ℕ × ℕ) (views : List View) : Type 0 where
+  pub each : (i n : ℕ) → i < sites → n < done i → (v : View) × (get_elem? views (finisher i n).0 ≡ some v) × (get_elem? v.finished (finisher i n).1 ≡ some record { instance = i; number = n + 1 })
+  pub only : (j m : ℕ) (v : View) (f : Finished) → get_elem? views j ≡ some v → get_elem? v.finished m ≡ some f → (f.instance < sites) × (0 < f.number) × (f.number ≤ done f.instance) × (finisher f.instance (f.number - 1) ≡ (j, m))
+
 -- no job is of this instance, and the jobs are of an instance each
 abbrev pub Misses : ℕ → List Work → Type 0
 Misses i xs = (n : ℕ) (y : Work) → get_elem? xs n ≡ some y → y.call.instance ≢ i
@@ -130,6 +148,7 @@ module _ (k : Key) (c : Core) (j : ℕ) where
     pub call : get_elem? (calls x.call.instance c.book) (c.done x.call.instance) ≡ some x.call
     pub read : (n y : ℕ) → get_elem? x.read n ≡ some y → get_elem? x.call.words n ≡ some y
     pub filled : (n m : ℕ) → get_elem? x.filled n ≡ some m → gen_of x.call.words ≤ c.shown (slot_of x.call.words) m
+    pub lists : x.filled ≡ c.filled x.call.instance
 
   abbrev pub Jobs : List Work → Type 0
   Jobs [] = Unit {0}
@@ -178,6 +197,8 @@ module _ {M : Type 0} (stands : ℕ → M → List Sent → Type 0) (given : ℕ
     pub each_component : (n m : ℕ) → n < k.slots → m < k.components → Shown c.book n m (slice_index s.words (component_word k n m))
     pub shown_is : (n m : ℕ) → n < k.slots → m < k.components → slice_index s.words (component_word k n m) / 2 ^ 32 ≡ c.shown n m
     pub full : (i n m : ℕ) (e : Entry) → i < length k.sites → n < c.done i → get_elem? (calls i c.book) n ≡ some e → m < length e.outs → gen_of e.words ≤ c.shown (slot_of e.words) m
+    pub fills : Fills k c.book c.done c.turn c.filled c.shown
+    pub once : (finisher : ℕ → ℕ → ℕ × ℕ) × Once (length k.sites) c.done finisher s.views
     pub numbered : Numbered c.book
     pub slotted : Slotted k.slots c.book
     pub named : (i : ℕ) → i < length k.sites → Named s.views i (c.turn i)

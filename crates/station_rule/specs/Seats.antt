@@ -11,7 +11,7 @@ use Rattle.station_rule.specs.declared.view.Entry.{Entry}
 use Rattle.station_rule.specs.declared.view.View.{View}
 use Rattle.station_rule.specs.declared.view.Role.TheVariants.{Offers, Serves}
 use Rattle.station_rule.specs.declared.station.Station.{Station}
-use Rattle.station_rule.specs.Book.{calls, issued, sents, slot_of, gen_of, IsUnnamed, InputsLive}
+use Rattle.station_rule.specs.Book.{calls, issued, sents, slot_of, gen_of, cell_component, EachHandle, IsUnnamed, InputsLive}
 use Rattle.station_rule.specs.Core.{site_at}
 use Rattle.station_rule.specs.Steps.{job_of, rest_jobs}
 
@@ -58,3 +58,4 @@ pub record MayOffer (k : Key) (v : View) (i : ℕ) (words : List ℕ) : Type 0 w
   pub next : gen_of words ≡ length (issued (slot_of words) v.book) + 1
   pub unnamed : IsUnnamed v.book v.seen (slot_of words)
   pub inputs : InputsLive v.book words
+  pub components : EachHandle words (λ j a b. cell_component a < k.components)

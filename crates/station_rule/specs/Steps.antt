@@ -12,15 +12,16 @@ use Rattle.station_rule.specs.declared.view.Work.{Work}
 use Rattle.station_rule.specs.declared.view.View.{View}
 use Rattle.station_rule.specs.declared.view.Role.{Role}
 use Rattle.station_rule.specs.declared.view.Role.TheVariants.{Offers, Serves, Rests}
-use Rattle.station_rule.specs.Book.{calls, issued, sents, entry_of, handle_value, cell_slot, cell_component, EachHandle, IsSentAs}
-use Rattle.station_rule.specs.Core.{Core, Shows, place, component_word}
+use Rattle.station_rule.specs.declared.view.Finished.{Finished}
+use Rattle.station_rule.specs.Book.{calls, issued, sents, slot_of, gen_of, entry_of, handle_value, cell_slot, cell_component, EachHandle, IsSentAs}
+use Rattle.station_rule.specs.Core.{Core, Shows, place, component_word, InRange}
 
 -- no call was seen done
 abbrev pub no_seen : List Site → List ℕ
 no_seen ts = map (λ t. 0) ts
 
 abbrev pub no_view : Role → Key → View
-no_view role k = record { role = role; layout = k; book = []; at = 0; entry = []; seen = no_seen k.sites; closed = 0; done = 0; tail = 0; looks = []; jobs = [] }
+no_view role k = record { role = role; layout = k; book = []; at = 0; entry = []; seen = no_seen k.sites; closed = 0; done = 0; tail = 0; looks = []; jobs = []; finished = [] }
 
 abbrev pub owner_view : Key → View
 owner_view k = no_view Offers k
@@ -45,6 +46,14 @@ rest_jobs (x ∷ xs) = xs
 
 abbrev pub job_of : View → Work
 job_of v = last_job v.jobs
+
+-- the last job is over, and stands in the list of what the seat finished
+abbrev pub with_finished : View → View
+with_finished v = record v { jobs = rest_jobs v.jobs; finished = v.finished ++ record { instance = (job_of v).call.instance; number = length (job_of v).before + 1 } ∷ [] }
+
+-- an owner takes over what a server finished
+abbrev pub taken_in : View → View → View
+taken_in v w = record v { finished = v.finished ++ w.finished }
 
 abbrev At : Type 0 → Type 0
 At M = Step (Option M)
@@ -72,10 +81,6 @@ module _ {M : Type 0} where
   -- the owner's look at a tail
   abbrev pub counted : At M → Sat M → ℕ → Sat M → Type 0
   counted st m r m' = (m' ≡ (record m.0 { looks = saw m.0 st.word r }, m.1)) × OfTail m.0 st.word (λ i t. (r ≡ length (calls i m.0.book)) × (r < 2 ^ 53))
-
-  -- the owner's look at a turn
-  abbrev pub looked : At M → Sat M → ℕ → Sat M → Type 0
-  looked st m r m' = OfTurn m.0 st.word (λ i t. (m' ≡ (record m.0 { seen = slice_set m.0.seen i (r / 2); looks = saw m.0 st.word r }, m.1)) × (slice_index m.0.seen i ≤ r / 2) × (slice_index (slice_set m.0.seen i (r / 2)) i ≡ r / 2) × (r / 2 ≤ length (calls i m.0.book)) × (length (calls i m.0.book) ≤ r / 2 + t.queue))
 
   -- the owner writes one word of the next entry
   abbrev pub wrote : At M → Sat M → ℕ → Sat M → Type 0
@@ -114,14 +119,24 @@ module _ {M : Type 0} where
   abbrev pub filled : At M → Sat M → ℕ → Sat M → Type 0
   filled st m r m' = OfComponent m.0 st.word (λ n c. m' ≡ (record m.0 { jobs = record (job_of m.0) { filled = (job_of m.0).filled ++ c ∷ [] } ∷ rest_jobs m.0.jobs }, m.1))
 
-  -- the job is done, and its memory is at home
+  -- the job is done and is listed, and its memory is at home
   abbrev pub finished : At M → Sat M → ℕ → Sat M → Type 0
-  finished st m r m' = m' ≡ (record m.0 { jobs = rest_jobs m.0.jobs }, rest m.1)
+  finished st m r m' = m' ≡ (with_finished m.0, rest m.1)
 
 module _ {M : Type 0} (stands : ℕ → M → List Sent → Type 0) (given : ℕ → List Sent → List ℕ) where
   -- at one moment the table showed a state in which n calls of the instance were offered, and all were done
   abbrev pub AllDone : Key → ℕ → ℕ → Type 0
   AllDone k i n = (s : State (Option M) View) × (c : Core) × Shows stands given k c s × (length (calls i c.book) ≡ n) × (c.done i ≡ n)
+
+  -- at one moment the table showed a lawful state in which n calls of the instance were done, and this was the book
+  abbrev pub Showed : Key → ℕ → ℕ → List Entry → Type 0
+  Showed k i n book = (s : State (Option M) View) × (c : Core) × Shows stands given k c s × (c.done i ≡ n) × (c.book ≡ book)
+
+  -- the owner's look at a turn
+  abbrev pub looked : At M → Sat M → ℕ → Sat M → Type 0
+  looked st m r m' =
+      OfTurn m.0 st.word (λ i t. (m' ≡ (record m.0 { seen = slice_set m.0.seen i (r / 2); looks = saw m.0 st.word r }, m.1)) × (slice_index m.0.seen i ≤ r / 2) × (slice_index (slice_set m.0.seen i (r / 2)) i ≡ r / 2) × (r / 2 ≤ length (calls i m.0.book)) × (length (calls i m.0.book) ≤ r / 2 + t.queue)
+      × Showed m.0.layout i (r / 2) m.0.book)
 
   -- a server's look at a tail
   abbrev pub checked : At M → Sat M → ℕ → Sat M → Type 0
@@ -132,6 +147,7 @@ module _ {M : Type 0} (stands : ℕ → M → List Sent → Type 0) (given : ℕ
   Took i t m m' =
       (x : M) × (w : Work) × (m' ≡ (record m.0 { jobs = w ∷ m.0.jobs }, (i, Some x) ∷ m.1)) × (w.call.instance ≡ i) × (length w.before ≡ m.0.done) × (length w.call.words ≡ t.width)
       × (w.read ≡ []) × (w.filled ≡ []) × IsSentAs w.call.words w.call.sent × (length w.before + 1 < 2 ^ 53) × stands i x (sents w.before) × (w.call.outs ≡ given i (sents w.before ++ w.call.sent ∷ []))
+      × (slot_of w.call.words < m.0.layout.slots) × (0 < gen_of w.call.words) × InRange m.0.layout w.call.words
 
   abbrev pub took : At M → Sat M → ℕ → Sat M → Type 0
   took st m r m' = OfTurn m.0 st.word (λ i t. (r ≡ st.first → Took i t m m') × (r ≢ st.first → m' ≡ (record m.0 { done = r / 2; looks = saw m.0 st.word r }, m.1)))

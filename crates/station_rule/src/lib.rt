@@ -18,4 +18,4 @@ pub use layout::{Layout, Site};
 pub use meaning::Meaning;
 pub use seated::{Handle, Owner, Seated, Server};
 pub use station::Station;
-pub use view::{Entry, Look, Role, Sent, View, Work};
+pub use view::{Entry, Finished, Look, Role, Sent, View, Work};

@@ -2,9 +2,9 @@
 ghost use Rattle.std.specs.Prelude.{◌≡◌, ◌≢◌, ◌⊎◌, ℕ, ◌+◌, ◌*◌, ◌/◌, ◌%◌, ◌^◌, ◌<◌, ◌≤◌, [], ◌∷◌, ◌++◌, length, slice_index, slice_set};
 ghost use mathlib.Core.Option.{some, none};
 ghost use lib.ListN.{get_elem?};
-ghost use Rattle.station_rule.specs.Book.{calls, entry_of, handle_value, issued, slot_of, gen_of, IsUnnamed, InputsLive};
+ghost use Rattle.station_rule.specs.Book.{calls, entry_of, handle_value, issued, slot_of, gen_of, IsUnnamed, InputsLive, EachHandle, cell_component};
 ghost use Rattle.station_rule.specs.Core.{place, site_at, site_end, component_word};
-ghost use Rattle.station_rule.specs.Steps.{saw};
+ghost use Rattle.station_rule.specs.Steps.{saw, Showed};
 ghost use Rattle.station_rule.specs.Seats.{IsSeatOf, IsSameSeat, IsOwner, HasInstance, MayOffer, book};
 
 use crate::layout::{Layout, Site};
@@ -57,10 +57,11 @@ impl<M, N: Meaning<M>, A: Allocator> Station<M, N, A> {
         requires site { (get_elem? self.now.layout.sites instance ≡ some site) × (site_end site ≤ self.now.table.shared.table_id.words) }
         ensures seat { IsSameSeat owner.old owner.new × (owner.new.me ≡ (record owner.old.me.0 { seen = slice_set owner.old.me.0.seen instance (result / 2); looks = saw owner.old.me.0 (site.start + 1) result }, owner.old.me.1)) }
         ensures turn { (slice_index owner.old.me.0.seen instance ≤ result / 2) × (slice_index owner.new.me.0.seen instance ≡ result / 2) × (result / 2 ≤ length (calls instance (book owner.old))) × (length (calls instance (book owner.old)) ≤ result / 2 + site.queue) }
+        ensures state { Showed N.stands N.given self.now.layout instance (result / 2) (book owner.old) }
     {
         self.table
             .shared
-            .load::<LookTurn>(owner, site.start as usize + 1)
+            .load::<LookTurn<N>>(owner, site.start as usize + 1)
     }
 
     /// Step: the owner stores one word of the next entry.
@@ -92,6 +93,7 @@ impl<M, N: Meaning<M>, A: Allocator> Station<M, N, A> {
         requires whole { (length owner.old.me.0.entry ≡ site.width) × (tail ≡ length (calls instance (book owner.old)) + 1) }
         requires slot { (slot_of owner.old.me.0.entry < self.now.layout.slots) × (gen_of owner.old.me.0.entry ≡ length (issued (slot_of owner.old.me.0.entry) (book owner.old)) + 1) }
         requires names { IsUnnamed (book owner.old) owner.old.me.0.seen (slot_of owner.old.me.0.entry) × InputsLive (book owner.old) owner.old.me.0.entry }
+        requires components { EachHandle owner.old.me.0.entry (λ j a b. cell_component a < self.now.layout.components) }
         ensures { IsSameSeat owner.old owner.new × (owner.new.me ≡ (record owner.old.me.0 { book = book owner.old ++ entry_of N.given (book owner.old) instance owner.old.me.0.entry ∷ []; entry = [] }, owner.old.me.1)) }
     {
         self.table
@@ -124,6 +126,7 @@ impl<M, N: Meaning<M>, A: Allocator> Station<M, N, A> {
         ensures seat { IsSameSeat owner.old.seat owner.new.seat × (owner.new.seat.me.0.book ≡ owner.old.seat.me.0.book) × (owner.new.seat.me.0.role ≡ owner.old.seat.me.0.role) × (owner.new.seat.me.0.layout ≡ owner.old.seat.me.0.layout) × (owner.new.seat.me.0.entry ≡ owner.old.seat.me.0.entry) × (owner.new.seat.me.0.closed ≡ owner.old.seat.me.0.closed) × (owner.new.seat.me.1 ≡ owner.old.seat.me.1) }
         ensures looks { (turn : ℕ) × (result.1 ≡ turn / 2) × (owner.new.seat.me.0.looks ≡ (owner.old.seat.me.0.looks ++ record { word = (site_at self.now.layout instance).start; found = result.0 } ∷ []) ++ record { word = (site_at self.now.layout instance).start + 1; found = turn } ∷ []) × (owner.new.seat.me.0.seen ≡ slice_set owner.old.seat.me.0.seen instance (turn / 2)) }
         ensures counts { (result.0 ≡ length (calls instance (book owner.old.seat))) × (slice_index owner.old.seat.me.0.seen instance ≤ result.1) × (result.1 ≤ result.0) × (result.0 ≤ result.1 + (site_at self.now.layout instance).queue) }
+        ensures state { Showed N.stands N.given self.now.layout instance result.1 (book owner.old.seat) }
     {
         let site = self.site(instance);
         let tail = self.tail(&mut owner.seat, instance, site);

@@ -5,7 +5,7 @@ ghost use lib.ListN.{get_elem?};
 ghost use Rattle.atomic_table.specs.Table.{rest};
 ghost use Rattle.station_rule.specs.Book.{calls, sents, slot_of, gen_of, cell_slot, cell_component, EachHandle, IsHeld, IsSentAs};
 ghost use Rattle.station_rule.specs.Core.{place, site_at, site_end, component_word};
-ghost use Rattle.station_rule.specs.Steps.{saw, job_of, rest_jobs, server_view, AllDone, Took};
+ghost use Rattle.station_rule.specs.Steps.{saw, job_of, rest_jobs, server_view, taken_in, with_finished, AllDone, Took};
 ghost use Rattle.station_rule.specs.Seats.{IsSeatOf, IsSameSeat, IsOwner, IsServer, IsTaken, HasSameJobs, HasInstance};
 
 use crate::job::{Job, Slot};
@@ -30,11 +30,11 @@ impl<M, N: Meaning<M>, A: Allocator> Station<M, N, A> {
         }
     }
 
-    /// Step: gives a server's seat up.
+    /// Step: gives a server's seat up. The owner has then what the server finished.
     pub fn join(&self, owner: &mut Owner<M>, server: Server<M>)
         requires owner { IsSeatOf self.now owner.old.seat × IsOwner owner.old.seat }
         requires server { IsSeatOf self.now server.seat × (server.seat.me.0.jobs ≡ []) × (server.seat.me.1 ≡ []) }
-        ensures { IsSameSeat owner.old.seat owner.new.seat × (owner.new.seat.me ≡ owner.old.seat.me) }
+        ensures { IsSameSeat owner.old.seat owner.new.seat × (owner.new.seat.me ≡ (taken_in owner.old.seat.me.0 server.seat.me.0, owner.old.seat.me.1)) }
     {
         self.table
             .shared
@@ -168,7 +168,7 @@ impl<M, N: Meaning<M>, A: Allocator> Station<M, N, A> {
         requires server { IsSeatOf self.now server.old × IsServer server.old × IsTaken server.old job.instance job.number × HasInstance self.now job.instance }
         requires filled { (m : ℕ) → m < length (job_of server.old.me.0).call.outs → (n : ℕ) × (get_elem? (job_of server.old.me.0).filled n ≡ some m) }
         requires memory { N.stands job.instance job.memory (sents (job_of server.old.me.0).before ++ (job_of server.old.me.0).call.sent ∷ []) }
-        ensures { IsSameSeat server.old server.new × IsSeatOf self.now server.new × (server.new.me ≡ (record server.old.me.0 { jobs = rest_jobs server.old.me.0.jobs }, rest server.old.me.1)) }
+        ensures { IsSameSeat server.old server.new × IsSeatOf self.now server.new × (server.new.me ≡ (with_finished server.old.me.0, rest server.old.me.1)) }
     {
         let Job {
             instance,
