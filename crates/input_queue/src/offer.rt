@@ -4,6 +4,7 @@ ghost use mathlib.Core.Option.{some};
 ghost use lib.ListN.{get_elem?};
 ghost use Rattle.station_rule.specs.Book.{calls, entry_of};
 ghost use Rattle.station_rule.specs.Core.{site_at, site_end};
+ghost use Rattle.station_rule.specs.Steps.{Showed};
 ghost use Rattle.station_rule.specs.Seats.{IsSeatOf, IsSameSeat, IsOwner, HasInstance, MayOffer, book};
 ghost use Rattle.input_queue.specs.Answers.{OfferIs, LookedAtBoth, SameOwner};
 
@@ -48,7 +49,7 @@ pub fn room<M, N: Meaning<M>, A: Allocator>(
 ) -> bool
     requires { IsSeatOf station.now owner.old.seat × IsOwner owner.old.seat × HasInstance station.now instance }
     ensures owner { SameOwner owner.old.seat owner.new.seat × IsSeatOf station.now owner.new.seat × (book owner.new.seat ≡ book owner.old.seat) × (owner.new.seat.me.0.entry ≡ owner.old.seat.me.0.entry) }
-    ensures look { (turn : ℕ) × LookedAtBoth station.now.layout instance owner.old.seat owner.new.seat turn × (IsTrue result ↔ length (calls instance (book owner.old.seat)) < turn / 2 + (site_at station.now.layout instance).queue) }
+    ensures look { (turn : ℕ) × LookedAtBoth station.now.layout instance owner.old.seat owner.new.seat turn × Showed N.stands N.given station.now.layout instance (turn / 2) (book owner.old.seat) × (IsTrue result ↔ length (calls instance (book owner.old.seat)) < turn / 2 + (site_at station.now.layout instance).queue) }
 {
     let site = station.site(instance);
     let (tail, done) = station.counts(owner, instance);
@@ -67,7 +68,7 @@ pub fn try_offer<M, N: Meaning<M>, A: Allocator>(
     requires instance { HasInstance station.now instance }
     requires call { MayOffer station.now.layout owner.old.seat.me.0 instance call.now }
     ensures owner { SameOwner owner.old.seat owner.new.seat × IsSeatOf station.now owner.new.seat × IsOwner owner.new.seat × (owner.new.seat.me.0.entry ≡ []) }
-    ensures answer { (turn : ℕ) × LookedAtBoth station.now.layout instance owner.old.seat owner.new.seat turn × OfferIs result
+    ensures answer { (turn : ℕ) × LookedAtBoth station.now.layout instance owner.old.seat owner.new.seat turn × Showed N.stands N.given station.now.layout instance (turn / 2) (book owner.old.seat) × OfferIs result
         ((book owner.new.seat ≡ book owner.old.seat ++ entry_of N.given (book owner.old.seat) instance call.now ∷ []) × (length (calls instance (book owner.old.seat)) < turn / 2 + (site_at station.now.layout instance).queue))
         ((book owner.new.seat ≡ book owner.old.seat) × (length (calls instance (book owner.old.seat)) ≡ turn / 2 + (site_at station.now.layout instance).queue)) }
 {

@@ -4,8 +4,8 @@ ghost use mathlib.Core.Option.{some};
 ghost use lib.ListN.{get_elem?};
 ghost use Rattle.atomic_table.specs.Table.{rest};
 ghost use Rattle.station_rule.specs.Book.{sents, mark_of, slot_of, gen_of, IsSentAs};
-ghost use Rattle.station_rule.specs.Core.{site_at, site_end};
-ghost use Rattle.station_rule.specs.Steps.{job_of, rest_jobs, AllDone};
+ghost use Rattle.station_rule.specs.Core.{site_at, site_end, InRange};
+ghost use Rattle.station_rule.specs.Steps.{job_of, rest_jobs, with_finished, AllDone};
 ghost use Rattle.station_rule.specs.Seats.{IsSeatOf, IsSameSeat, IsServer, IsTaken, HasSameJobs, HasInstance};
 ghost use Rattle.input_queue.specs.Answers.{TakeIs, turn_look, tail_look};
 
@@ -56,7 +56,7 @@ pub fn try_take<M, N: Meaning<M>, A: Allocator>(
         (λ j. (turn % 2 ≡ 0) × ((tail : ℕ) × (server.new.seat.me.0.looks ≡ (server.old.seat.me.0.looks ++ turn_look station.now.layout instance turn ∷ []) ++ tail_look station.now.layout instance tail ∷ [])) × (j.number ≡ turn / 2 + 1)
         × (j.instance ≡ instance) × IsTaken server.new.seat instance j.number × (rest_jobs server.new.seat.me.0.jobs ≡ server.old.seat.me.0.jobs) × (rest server.new.seat.me.1 ≡ server.old.seat.me.1) × ((job_of server.new.seat.me.0).call.words ≡ input.new) × ((job_of server.new.seat.me.0).read ≡ input.new) × N.stands instance j.memory (sents (job_of server.new.seat.me.0).before)
         × IsSentAs input.new (job_of server.new.seat.me.0).call.sent × ((job_of server.new.seat.me.0).filled ≡ []) × ((job_of server.new.seat.me.0).call.outs ≡ N.given instance (sents (job_of server.new.seat.me.0).before ++ (job_of server.new.seat.me.0).call.sent ∷ []))
-        × (j.reset ≡ not (mark_of input.new == 0)) × (j.slot.slot ≡ slot_of input.new) × (j.slot.generation ≡ gen_of input.new))
+        × (j.reset ≡ not (mark_of input.new == 0)) × (j.slot.slot ≡ slot_of input.new) × (j.slot.generation ≡ gen_of input.new) × (slot_of input.new < station.now.layout.slots) × (0 < gen_of input.new) × InRange station.now.layout input.new)
         ((turn % 2 ≡ 0) × HasSameJobs server.old.seat server.new.seat × AllDone N.stands N.given station.now.layout instance (turn / 2) × (server.new.seat.me.0.looks ≡ (server.old.seat.me.0.looks ++ turn_look station.now.layout instance turn ∷ []) ++ tail_look station.now.layout instance (turn / 2) ∷ []))
         (HasSameJobs server.old.seat server.new.seat × (((turn % 2 ≡ 1) × (server.new.seat.me.0.looks ≡ server.old.seat.me.0.looks ++ turn_look station.now.layout instance turn ∷ []))
         ⊎ ((tail found : ℕ) × (server.new.seat.me.0.looks ≡ ((server.old.seat.me.0.looks ++ turn_look station.now.layout instance turn ∷ []) ++ tail_look station.now.layout instance tail ∷ []) ++ turn_look station.now.layout instance found ∷ []) × (found ≢ turn)))) }
@@ -77,7 +77,7 @@ pub fn try_take<M, N: Meaning<M>, A: Allocator>(
     Take::Taken(station.take_memory(&mut server.seat, instance, done + 1, input[0]))
 }
 
-/// Gives the memory back, and one more call of the instance is done.
+/// Gives the memory back, and one more call of the instance is done. The server has it in the list of what it finished.
 pub fn finish<M, N: Meaning<M>, A: Allocator>(
     station: &Station<M, N, A>,
     server: &mut Server<M>,
@@ -86,7 +86,7 @@ pub fn finish<M, N: Meaning<M>, A: Allocator>(
     requires server { IsSeatOf station.now server.old.seat × IsServer server.old.seat × IsTaken server.old.seat job.instance job.number × HasInstance station.now job.instance }
     requires filled { (m : ℕ) → m < length (job_of server.old.seat.me.0).call.outs → (n : ℕ) × (get_elem? (job_of server.old.seat.me.0).filled n ≡ some m) }
     requires memory { N.stands job.instance job.memory (sents (job_of server.old.seat.me.0).before ++ (job_of server.old.seat.me.0).call.sent ∷ []) }
-    ensures { IsSameSeat server.old.seat server.new.seat × IsSeatOf station.now server.new.seat × (server.new.seat.me ≡ (record server.old.seat.me.0 { jobs = rest_jobs server.old.seat.me.0.jobs }, rest server.old.seat.me.1)) }
+    ensures { IsSameSeat server.old.seat server.new.seat × IsSeatOf station.now server.new.seat × (server.new.seat.me ≡ (with_finished server.old.seat.me.0, rest server.old.seat.me.1)) }
 {
     station.finish(&mut server.seat, job);
 }

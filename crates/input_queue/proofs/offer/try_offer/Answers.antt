@@ -3,7 +3,8 @@ use Rattle.station_rule.specs.declared.view.Entry.{Entry}
 use Rattle.station_rule.specs.declared.view.View.{View}
 use Rattle.station_rule.specs.declared.view.Look.{Look}
 use Rattle.station_rule.specs.declared.layout.Site.{Site}
-use Rattle.station_rule.specs.Book.{calls, entry_of, slot_of, IsUnnamed, InputsLive}
+use Rattle.station_rule.specs.Book.{calls, entry_of, slot_of, cell_component, EachHandle, IsUnnamed, InputsLive}
+use Rattle.station_rule.specs.Steps.{Showed}
 use Rattle.station_rule.proofs.Offering.{unnamed_later}
 use Rattle.input_queue.proofs.offer.try_offer.Goals as goal
 
@@ -43,6 +44,11 @@ publish-requires-clause-names g c =
       subst (λ (z : List Entry × List ℕ). InputsLive z.0 z.1) (λ y. (sym book y, sym entry y)) may.inputs,
     )
 
+pub publish-requires-clause-components : goal.publish-requires-clause-components
+publish-requires-clause-components g c =
+    let entry : c.write_all.new.owner.me.0.entry ≡ c.args.call.now = ap (λ m. m.0.entry) c.write_all.ensures.1 in
+    subst (λ (z : List ℕ). EachHandle z (λ j a b. cell_component a < c.args.station.now.layout.components)) (sym entry) c.requires.call.components
+
 pub returns-clause-answer : goal.returns-clause-answer
 returns-clause-answer g c =
     let i : ℕ = c.args.instance in
@@ -68,6 +74,7 @@ returns-clause-answer g c =
         ap (λ m. m.0.seen) four ∙ ap (λ m. m.0.seen) three ∙ ap (λ m. m.0.seen) two ∙ ap (λ m. set m.0.seen i (r / 2)) one,
         (let was = ap (λ m. get_or m.0.seen i 0) one in omega arith),
       ),
+      subst (Showed g.N.Meaning.stands g.N.Meaning.given c.args.station.now.layout i (r / 2)) (ap (λ m. m.0.book) one) c.turn-done.ensures.state,
       (
         ap (λ m. m.0.book) four ∙ ap (λ m. m.0.book ++ entry_of g.N.Meaning.given m.0.book i m.0.entry ∷ []) three ∙ ap (λ (b : List Entry). b ++ entry_of g.N.Meaning.given b i c.args.call.now ∷ []) book,
         subst (λ (t : Site). length (calls i o.book) < r / 2 + t.queue) site queue,
