@@ -1,22 +1,21 @@
 -- How a station starts, and how servers come and go.
-use Rattle.std.proofs.Common.{◌≡◌, ◌≢◌, ◌⊎◌, ℕ, zero, suc, ◌+◌, ◌*◌, ◌/◌, ◌^◌, ◌<◌, ◌≤◌, List, [], ◌∷◌, ◌++◌, map, length, get_or, set, take, sym, refl, ap, ◌∙◌, subst, inl, ⊎_elim, arith}
-use mathlib.Core.Option.{none, some, some-injective, some-ne-none}
-use mathlib.Core.Option as maybe
+use Rattle.std.proofs.Common.{◌≡◌, ◌≢◌, ℕ, zero, suc, ◌+◌, ◌/◌, ◌^◌, ◌<◌, List, [], ◌∷◌, ◌++◌, length, get_or, set, sym, refl, ap, ◌∙◌, subst, inl, ⊎_elim, arith}
+use mathlib.Core.Option.{some, some-injective, some-ne-none}
 use mathlib.Core.Logic.{dite}
 use native.Mathlib.Decide.{ℕ_discrete}
 use lib.ListN.{get_elem?, length-map}
-use Rattle.std.specs.Prelude.{Option, Some, None}
-use Rattle.atomic_table.specs.Table.{State, Splits, Joins, opening}
+use Rattle.std.specs.Prelude.{Option, Some}
+use Rattle.atomic_table.specs.Table.{Splits, Joins, opening}
 use Rattle.atomic_table.proofs.Lists.{at_snoc, at_map, set_again, at_longer, set_else}
 use Rattle.station_rule.specs.Key.{Key}
 use Rattle.station_rule.specs.declared.layout.Site.{Site}
 use Rattle.station_rule.specs.declared.view.Sent.{Sent}
 use Rattle.station_rule.specs.declared.view.Work.{Work}
 use Rattle.station_rule.specs.declared.view.View.{View}
-use Rattle.station_rule.specs.declared.view.Role.TheVariants.{Offers, Serves, Rests}
-use Rattle.station_rule.specs.Core.{Turn, free, held, Core, Placed, component_word, Inst, Shown, IsOwners, Knows, Named, Once, Shows, Lawful}
-use Rattle.station_rule.specs.Steps.{no_seen, no_view, owner_view, server_view, spent_view, taken_in}
-use Rattle.station_rule.proofs.Lists.{some_at, some_below, component_below}
+use Rattle.station_rule.specs.declared.view.Role.TheVariants.{Offers}
+use Rattle.station_rule.specs.Core.{Turn, free, held, Core, Placed, component_word, IsOwners, Knows, Named, Lawful}
+use Rattle.station_rule.specs.Steps.{no_seen, owner_view, server_view, spent_view, taken_in}
+use Rattle.station_rule.proofs.Lists.{some_below}
 use Rattle.station_rule.proofs.Kept.{Seats, seats_stay, knows_as, named_stays, knows, reviewed}
 use Rattle.station_rule.proofs.Once.{once_stays, once_longer, once_joined, moved_to}
 

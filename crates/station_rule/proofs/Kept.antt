@@ -1,14 +1,14 @@
 -- What a step leaves as it is.
-use Rattle.std.proofs.Common.{◌≡◌, ◌≢◌, ◌⊎◌, ℕ, zero, suc, ◌+◌, ◌-◌, ◌*◌, ◌/◌, ◌%◌, ◌^◌, ◌<◌, ◌≤◌, eqb, List, [], ◌∷◌, ◌++◌, length, get_or, set, take, sym, refl, ap, ◌∙◌, subst, inl, inr, ⊎_elim, le_refl, le_trans, arith, length-append, length-set, get_or-set_other, get_or-set_same}
-use Rattle.std.proofs.lemmas.List.{set-get_or, take-append-le, length-take-le}
+use Rattle.std.proofs.Common.{◌≡◌, ◌≢◌, ℕ, suc, ◌+◌, ◌*◌, ◌/◌, ◌^◌, ◌<◌, ◌≤◌, List, [], ◌∷◌, length, get_or, set, take, sym, refl, ap, ◌∙◌, subst, ⊎_elim, le_trans, arith, length-set, get_or-set_other}
+use Rattle.std.proofs.lemmas.List.{set-get_or}
 use mathlib.Core.Option.{none, some, some-injective, some-ne-none}
 use mathlib.Core.Option as maybe
 use mathlib.Core.Logic.{dite}
-use native.Mathlib.Decide.{dec_le, ℕ_discrete}
+use native.Mathlib.Decide.{ℕ_discrete}
 use lib.ListN.{get_elem?}
-use Rattle.std.specs.Prelude.{Option, Some, None}
-use Rattle.atomic_table.specs.Table.{State, Me, step, keeps, stepped, Allows}
-use Rattle.atomic_table.proofs.Lists.{at_set, set_else, at_longer}
+use Rattle.std.specs.Prelude.{Option}
+use Rattle.atomic_table.specs.Table.{State, keeps, stepped}
+use Rattle.atomic_table.proofs.Lists.{at_set, set_else}
 use Rattle.station_rule.specs.declared.layout.Site.{Site}
 use Rattle.station_rule.specs.Key.{Key}
 use Rattle.station_rule.specs.declared.view.Sent.{Sent}
@@ -17,10 +17,10 @@ use Rattle.station_rule.specs.declared.view.Work.{Work}
 use Rattle.station_rule.specs.declared.view.View.{View}
 use Rattle.station_rule.specs.declared.view.Role.{Role}
 use Rattle.station_rule.specs.declared.view.Role.TheVariants.{Offers, Serves, Rests}
-use Rattle.station_rule.specs.Book.{calls, issued, sents, slot_of, gen_of}
-use Rattle.station_rule.specs.Core.{Turn, free, held, up, Core, site_end, place, component_word, Placed, Written, AtHome, Inst, Shown, Fills, Once, IsJob, Jobs, IsOwners, IsServers, Knows, Named, Shows, Lawful}
+use Rattle.station_rule.specs.Book.{calls, slot_of, gen_of}
+use Rattle.station_rule.specs.Core.{Turn, free, held, up, Core, site_end, component_word, Written, AtHome, Inst, Shown, Fills, Once, Jobs, Knows, Named, Shows, Lawful}
 use Rattle.station_rule.proofs.Once.{once_stays}
-use Rattle.station_rule.proofs.Lists.{Off, Outside, off_place, off_outside, off_head, outside, place_below, component_below, some_below, set_there, written_else}
+use Rattle.station_rule.proofs.Lists.{Outside, off_place, off_outside, off_head, outside, component_below, set_there, written_else}
 
 abbrev pub SameJobs : View → View → Type 0
 SameJobs v w = (n : ℕ) (x : Work) → get_elem? v.jobs n ≡ some x → (m : ℕ) × (y : Work) × (get_elem? w.jobs m ≡ some y) × (y.call.instance ≡ x.call.instance)

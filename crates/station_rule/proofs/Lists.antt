@@ -1,5 +1,5 @@
 -- Lists that grow at their end, picked lists, and where words stand.
-use Rattle.std.proofs.Common.{replicate, ◌≡◌, ◌≢◌, ◌⊎◌, ℕ, zero, suc, ◌+◌, ◌-◌, ◌*◌, ◌/◌, ◌%◌, ◌^◌, ◌<◌, ◌≤◌, Bool, true, false, cond, eqb, List, [], ◌∷◌, ◌++◌, length, get_or, set, take, drop, sym, refl, ap, ◌∙◌, subst, inl, inr, ⊎_elim, arith, eq-eqb, ne_eqb, eqb-true, mod-lt, mul-le-mul_right, suc-mul, lt_of_not-le, length-append, get_or-set_other}
+use Rattle.std.proofs.Common.{replicate, ◌≡◌, ◌≢◌, ◌⊎◌, ℕ, zero, suc, ◌+◌, ◌-◌, ◌*◌, ◌/◌, ◌%◌, ◌^◌, ◌<◌, ◌≤◌, Bool, true, false, cond, List, [], ◌∷◌, ◌++◌, length, get_or, set, take, drop, sym, refl, ap, ◌∙◌, subst, inl, inr, ⊎_elim, arith, eq-eqb, ne_eqb, mod-lt, mul-le-mul_right, suc-mul, length-append, get_or-set_other}
 use Rattle.std.proofs.lemmas.List.{take-append-le, length-take-le}
 use mathlib.Core.Option.{some, some-injective, some-ne-none}
 use mathlib.Core.Logic.{dite}
@@ -9,7 +9,7 @@ use Rattle.atomic_table.proofs.Lists.{one_turn, at_longer}
 use Rattle.station_rule.specs.declared.layout.Site.{Site}
 use Rattle.station_rule.specs.Key.{Key}
 use Rattle.station_rule.specs.declared.view.Entry.{Entry}
-use Rattle.station_rule.specs.Book.{pick, cell_value, values, is_of, calls, issued, slot_of, gen_of}
+use Rattle.station_rule.specs.Book.{pick, cell_value, values, is_of, calls, issued, slot_of}
 use Rattle.station_rule.specs.Core.{put, site_end, place, component_word, Placed, Written, Numbered, Slotted}
 
 further : (x y n : ℕ) → x < y → x * n + n ≤ y * n

@@ -1,14 +1,14 @@
 -- The owner's steps keep the rule.
-use Rattle.std.proofs.Common.{◌≡◌, ◌≢◌, ◌⊎◌, ℕ, zero, suc, ◌+◌, ◌-◌, ◌*◌, ◌/◌, ◌%◌, ◌^◌, ◌<◌, ◌≤◌, Bool, true, false, cond, eqb, List, [], ◌∷◌, ◌++◌, length, get_or, set, take, drop, sym, refl, ap, ◌∙◌, subst, inl, inr, ⊎_elim, le_refl, le_trans, arith, eq-eqb, ne_eqb, eqb-true, length-append, length-set, length-drop, get_or-set_other, get_or-set_same}
-use Rattle.std.proofs.lemmas.List.{take-append-le, length-take-le, take_all}
+use Rattle.std.proofs.Common.{◌≡◌, ◌≢◌, ◌⊎◌, ℕ, zero, suc, ◌+◌, ◌-◌, ◌*◌, ◌/◌, ◌%◌, ◌^◌, ◌<◌, ◌≤◌, Bool, true, false, cond, eqb, List, [], ◌∷◌, ◌++◌, length, get_or, set, drop, sym, refl, ap, ◌∙◌, subst, inl, inr, ⊎_elim, le_refl, le_trans, arith, eq-eqb, ne_eqb, eqb-true, length-append, length-set, length-drop, get_or-set_other, get_or-set_same}
+use Rattle.std.proofs.lemmas.List.{take_all}
 use mathlib.Core.Option.{none, some, some-injective, some-ne-none}
 use mathlib.Core.Option as maybe
 use mathlib.Core.Logic.{dite}
 use native.Mathlib.Decide.{dec_le, ℕ_discrete}
 use lib.ListN.{get_elem?}
-use Rattle.std.specs.Prelude.{Option, Some, None}
-use Rattle.atomic_table.specs.Table.{State, Me, step, keeps, stepped, Allows}
-use Rattle.atomic_table.proofs.Lists.{at_set, set_else, at_longer, at_last}
+use Rattle.std.specs.Prelude.{Option}
+use Rattle.atomic_table.specs.Table.{State, Me, step, keeps, Allows}
+use Rattle.atomic_table.proofs.Lists.{at_last}
 use Rattle.station_rule.specs.declared.layout.Site.{Site}
 use Rattle.station_rule.specs.Key.{Key}
 use Rattle.station_rule.specs.declared.view.Sent.{Sent}
@@ -17,13 +17,13 @@ use Rattle.station_rule.specs.declared.view.Work.{Work}
 use Rattle.station_rule.specs.declared.view.View.{View}
 use Rattle.station_rule.specs.declared.view.Role.{Role}
 use Rattle.station_rule.specs.declared.view.Role.TheVariants.{Offers, Serves, Rests}
-use Rattle.station_rule.specs.Book.{is_of, has_slot, slot_of, gen_of, calls, issued, sents, IsHeld, cell_slot, cell_component, cell_value, handle_value, out_at, values, sent_of, entry_of, IsLive, EachHandle, IsUnnamed, InputsLive}
-use Rattle.station_rule.specs.Core.{Turn, free, held, up, Core, site_end, place, component_word, Written, Entered, Live, AtHome, Inst, Shown, Numbered, Slotted, IsJob, Jobs, IsOwners, IsServers, Knows, Named, Shows, Lawful}
+use Rattle.station_rule.specs.Book.{is_of, has_slot, slot_of, gen_of, calls, issued, sents, cell_slot, cell_component, cell_value, handle_value, out_at, values, sent_of, entry_of, EachHandle, IsUnnamed, InputsLive}
+use Rattle.station_rule.specs.Core.{Turn, free, held, up, Core, place, component_word, Written, Entered, Live, AtHome, Inst, Shown, Numbered, Slotted, Jobs, IsOwners, Knows, Shows, Lawful}
 use Rattle.station_rule.specs.Steps.{saw, counted, looked, wrote, published, found, raised}
 use Rattle.station_rule.proofs.Once.{once_stays}
 use Rattle.station_rule.proofs.Filled.{fills_publish}
-use Rattle.station_rule.proofs.Lists.{Off, off_place, off_outside, off_head, one_site, one_place, outside, place_apart, place_below, component_below, some_below, some_at, at_end, written_else, pick_hit, pick_miss, pick_longer, pick_take, pick_grows, pick_end, pick_says, pick_in, in_issued, values_at, get_or-drop_one, length-values, few_calls}
-use Rattle.station_rule.proofs.Kept.{Seats, seats_stay, knows_as, named_stays, others_move, home_stays, inst_stays, knows, reviewed, seen, moved, begun_stays, half}
+use Rattle.station_rule.proofs.Lists.{off_place, one_site, outside, place_apart, place_below, component_below, some_below, some_at, at_end, written_else, pick_hit, pick_miss, pick_longer, pick_take, pick_grows, pick_end, pick_says, pick_in, in_issued, values_at, get_or-drop_one, length-values, few_calls}
+use Rattle.station_rule.proofs.Kept.{seats_stay, knows_as, named_stays, others_move, inst_stays, knows, seen, moved, begun_stays, half}
 
 module _ {M : Type 0} (stands : ℕ → M → List Sent → Type 0) (given : ℕ → List Sent → List ℕ) (k : Key) where
   abbrev St : Type 0

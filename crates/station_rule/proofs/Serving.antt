@@ -1,13 +1,13 @@
 -- A server's steps keep the rule.
-use Rattle.std.proofs.Common.{◌≡◌, ◌≢◌, ◌⊎◌, ℕ, zero, suc, ◌+◌, ◌-◌, ◌*◌, ◌/◌, ◌%◌, ◌^◌, ◌<◌, ◌≤◌, eqb, List, [], ◌∷◌, ◌++◌, length, get_or, set, take, sym, refl, ap, ◌∙◌, subst, inl, inr, ⊎_elim, le_refl, le_trans, arith, length-append, length-set, get_or-set_other, get_or-set_same}
+use Rattle.std.proofs.Common.{◌≡◌, ◌≢◌, ℕ, zero, suc, ◌+◌, ◌-◌, ◌*◌, ◌/◌, ◌%◌, ◌^◌, ◌<◌, ◌≤◌, eqb, List, [], ◌∷◌, ◌++◌, length, get_or, set, take, sym, refl, ap, ◌∙◌, subst, inl, inr, ⊎_elim, le_refl, le_trans, arith, length-set, get_or-set_other, get_or-set_same}
 use Rattle.std.proofs.lemmas.List.{length-take-le}
 use mathlib.Core.Option.{none, some, some-injective, some-ne-none}
 use mathlib.Core.Option as maybe
 use mathlib.Core.Logic.{dite}
-use native.Mathlib.Decide.{dec_le, ℕ_discrete}
+use native.Mathlib.Decide.{ℕ_discrete}
 use lib.ListN.{get_elem?}
 use prog.Atomic.{either}
-use Rattle.std.specs.Prelude.{Option, Some, None}
+use Rattle.std.specs.Prelude.{Option, Some}
 use Rattle.atomic_table.specs.Table.{State, Me, Act, step, keeps, takes, gives, stepped, put_back, rest, carried_after, Valid, Allows}
 use Rattle.atomic_table.proofs.Lists.{set_here, set_else, exchanged}
 use Rattle.station_rule.specs.Key.{Key}
@@ -19,13 +19,13 @@ use Rattle.station_rule.specs.declared.view.Finished.{Finished}
 use Rattle.station_rule.specs.declared.view.View.{View}
 use Rattle.station_rule.specs.declared.view.Role.{Role}
 use Rattle.station_rule.specs.declared.view.Role.TheVariants.{Offers, Serves, Rests}
-use Rattle.station_rule.specs.Book.{is_of, slot_of, gen_of, calls, issued, sents, IsHeld, cell_slot, cell_component, EachHandle}
+use Rattle.station_rule.specs.Book.{slot_of, gen_of, calls, issued, sents, cell_slot, cell_component, EachHandle}
 use Rattle.station_rule.proofs.Once.{once_stays, once_more}
 use Rattle.station_rule.proofs.Filled.{fills_take, fills_fill, fills_finish}
-use Rattle.station_rule.specs.Core.{Turn, free, held, up, put, Core, site_end, place, component_word, InRange, Written, Entered, Live, AtHome, Inst, Shown, IsJob, Jobs, Misses, Apart, IsServers, Knows, Named, Shows, Lawful}
+use Rattle.station_rule.specs.Core.{Turn, free, held, up, put, Core, place, component_word, InRange, AtHome, Inst, Shown, IsJob, Jobs, Misses, Apart, Knows, Named, Shows, Lawful}
 use Rattle.station_rule.specs.Steps.{saw, job_of, last_job, rest_jobs, marked, glanced, checked, took, read, fetched, filled, finished}
-use Rattle.station_rule.proofs.Lists.{off_place, off_head, one_site, one_place, outside, place_below, component_below, some_below, some_at, take_next, set_there, at_end, written_else, put_here, put_else, put_at, put_at_here, put_at_else, put_at_grows, in_issued}
-use Rattle.station_rule.proofs.Kept.{Seats, seats_stay, knows_as, named_stays, SameJobs, jobs_move, others_move, inst_stays, knows, seen, moved, begun_stays, half}
+use Rattle.station_rule.proofs.Lists.{off_place, one_site, one_place, component_below, some_below, some_at, take_next, set_there, at_end, written_else, put_here, put_else, put_at, put_at_here, put_at_else, put_at_grows, in_issued}
+use Rattle.station_rule.proofs.Kept.{seats_stay, knows_as, named_stays, SameJobs, jobs_move, others_move, inst_stays, knows, seen, moved, begun_stays, half}
 
 is_free : (t : Turn) (n d : ℕ) → 2 * n + up t ≡ 2 * d → (t ≡ free) × (n ≡ d)
 is_free free n d e = (refl, omega arith)

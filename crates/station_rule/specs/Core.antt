@@ -1,5 +1,5 @@
 -- The core machine, and when a table shows a lawful state of it.
-use Rattle.std.specs.Prelude.{◌≡◌, ◌≢◌, ◌⊎◌, ℕ, suc, ◌+◌, ◌-◌, ◌*◌, ◌/◌, ◌%◌, ◌^◌, ◌<◌, ◌≤◌, ◌==◌, cond, List, [], ◌∷◌, ◌++◌, map, length, take, slice_index, slice_index_or, Option, Some, None}
+use Rattle.std.specs.Prelude.{◌≡◌, ◌≢◌, ◌⊎◌, ℕ, ◌+◌, ◌-◌, ◌*◌, ◌/◌, ◌%◌, ◌^◌, ◌<◌, ◌≤◌, ◌==◌, cond, List, [], ◌∷◌, ◌++◌, length, take, slice_index, slice_index_or, Option, Some}
 use mathlib.Core.Option.{some}
 use mathlib.Core.Option as maybe
 use lib.ListN.{get_elem?}
@@ -13,7 +13,7 @@ use Rattle.station_rule.specs.declared.view.Finished.{Finished}
 use Rattle.station_rule.specs.declared.view.View.{View}
 use Rattle.station_rule.specs.declared.view.Role.{Role}
 use Rattle.station_rule.specs.declared.view.Role.TheVariants.{Offers, Serves, Rests}
-use Rattle.station_rule.specs.Book.{calls, issued, sents, slot_of, gen_of, cell_slot, cell_component, IsIssued, IsLive, IsSentAs, EachHandle}
+use Rattle.station_rule.specs.Book.{calls, issued, sents, slot_of, gen_of, cell_slot, cell_component, IsLive, IsSentAs, EachHandle}
 
 pub data Turn : Type 0 where
   free : Turn

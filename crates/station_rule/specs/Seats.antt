@@ -1,17 +1,13 @@
 -- What a clause says of a station and its seats.
-use Rattle.std.specs.Prelude.{◌≡◌, ◌≢◌, ◌⊎◌, ℕ, ◌+◌, ◌*◌, ◌/◌, ◌^◌, ◌<◌, ◌≤◌, Option, None, List, [], ◌∷◌, ◌++◌, length, slice_index}
-use mathlib.Core.Option.{some}
-use lib.ListN.{get_elem?}
+use Rattle.std.specs.Prelude.{◌≡◌, ℕ, ◌+◌, ◌<◌, Option, None, List, [], ◌∷◌, length}
 use Rattle.atomic_table.specs.Table.{rest}
 use Rattle.atomic_table.specs.declared.shared.Seat.{Seat}
 use Rattle.station_rule.specs.Key.{Key}
-use Rattle.station_rule.specs.declared.layout.Site.{Site}
-use Rattle.station_rule.specs.declared.view.Sent.{Sent}
 use Rattle.station_rule.specs.declared.view.Entry.{Entry}
 use Rattle.station_rule.specs.declared.view.View.{View}
 use Rattle.station_rule.specs.declared.view.Role.TheVariants.{Offers, Serves}
 use Rattle.station_rule.specs.declared.station.Station.{Station}
-use Rattle.station_rule.specs.Book.{calls, issued, sents, slot_of, gen_of, cell_component, EachHandle, IsUnnamed, InputsLive}
+use Rattle.station_rule.specs.Book.{issued, slot_of, gen_of, cell_component, EachHandle, IsUnnamed, InputsLive}
 use Rattle.station_rule.specs.Core.{site_at}
 use Rattle.station_rule.specs.Steps.{job_of, rest_jobs}
 

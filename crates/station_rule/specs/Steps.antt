@@ -1,5 +1,5 @@
 -- What each step tells.
-use Rattle.std.specs.Prelude.{◌≡◌, ◌≢◌, ℕ, ◌+◌, ◌*◌, ◌/◌, ◌%◌, ◌^◌, ◌<◌, ◌≤◌, List, [], ◌∷◌, ◌++◌, map, length, slice_index, slice_set, Option, Some, None}
+use Rattle.std.specs.Prelude.{◌≡◌, ◌≢◌, ℕ, ◌+◌, ◌/◌, ◌%◌, ◌^◌, ◌<◌, ◌≤◌, List, [], ◌∷◌, ◌++◌, map, length, slice_index, slice_set, Option, Some}
 use mathlib.Core.Option.{some}
 use lib.ListN.{get_elem?}
 use Rattle.atomic_table.specs.Table.{State, Me, Step, rest}
@@ -12,8 +12,7 @@ use Rattle.station_rule.specs.declared.view.Work.{Work}
 use Rattle.station_rule.specs.declared.view.View.{View}
 use Rattle.station_rule.specs.declared.view.Role.{Role}
 use Rattle.station_rule.specs.declared.view.Role.TheVariants.{Offers, Serves, Rests}
-use Rattle.station_rule.specs.declared.view.Finished.{Finished}
-use Rattle.station_rule.specs.Book.{calls, issued, sents, slot_of, gen_of, entry_of, handle_value, cell_slot, cell_component, EachHandle, IsSentAs}
+use Rattle.station_rule.specs.Book.{calls, sents, slot_of, gen_of, entry_of, handle_value, cell_slot, cell_component, EachHandle, IsSentAs}
 use Rattle.station_rule.specs.Core.{Core, Shows, place, component_word, InRange}
 
 -- no call was seen done

@@ -1,4 +1,4 @@
-use Rattle.std.proofs.Common.{◌≡◌, ◌+◌, ◌*◌, ◌++◌, ◌∷◌, [], ap, sym, ◌∙◌, subst, ℕ, List, rules, arith}
+use Rattle.std.proofs.Common.{◌≡◌, ◌+◌, ◌*◌, ◌++◌, ◌∷◌, [], ap, sym, subst, ℕ, List, rules}
 use Rattle.station_rule.specs.Key.{Key}
 use Rattle.station_rule.specs.Core.{Placed}
 use Rattle.station_rule.specs.declared.layout.Site.{Site}

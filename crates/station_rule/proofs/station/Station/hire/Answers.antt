@@ -1,6 +1,4 @@
-use Rattle.std.proofs.Common.{rules, arith, ap, sym, ◌∙◌, ◌+◌, ℕ, subst}
-use lib.ListN.{get_elem?}
-use Rattle.station_rule.specs.Key.{Key}
+use Rattle.std.proofs.Common.{rules, arith}
 use Rattle.station_rule.proofs.Coming.{hires}
 use Rattle.station_rule.proofs.station.Station.hire.Goals as goal
 

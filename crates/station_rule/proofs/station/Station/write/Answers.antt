@@ -1,4 +1,4 @@
-use Rattle.std.proofs.Common.{rules, arith, ap, sym, ◌∙◌, subst}
+use Rattle.std.proofs.Common.{rules, arith, ap, ◌∙◌}
 use lib.ListN.{get_elem?}
 use Rattle.station_rule.specs.Key.{Key}
 use Rattle.station_rule.proofs.Offering.{writes}
