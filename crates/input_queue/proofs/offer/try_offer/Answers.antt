@@ -1,6 +1,5 @@
-use Rattle.std.proofs.Common.{◌≡◌, ◌<◌, ◌+◌, ◌++◌, ◌∷◌, [], length, rules, arith, ap, sym, ◌∙◌, subst, ℕ, ◌/◌, List, set, get_or}
+use Rattle.std.proofs.Common.{◌≡◌, ◌<◌, ◌+◌, ◌++◌, ◌∷◌, [], length, arith, ap, sym, ◌∙◌, subst, ℕ, ◌/◌, List, set, get_or}
 use Rattle.station_rule.specs.declared.view.Entry.{Entry}
-use Rattle.station_rule.specs.declared.view.View.{View}
 use Rattle.station_rule.specs.declared.view.Look.{Look}
 use Rattle.station_rule.specs.declared.layout.Site.{Site}
 use Rattle.station_rule.specs.Book.{calls, entry_of, slot_of, cell_component, EachHandle, IsUnnamed, InputsLive}

@@ -1,9 +1,8 @@
-use Rattle.std.proofs.Common.{◌≡◌, ◌+◌, ◌++◌, ◌∷◌, [], ℕ, List, length, take, set, ap, sym, ◌<◌, ◌∙◌, arith, rules, length-set}
+use Rattle.std.proofs.Common.{◌++◌, ◌∷◌, [], ℕ, List, length, ap, sym, ◌<◌, ◌∙◌, arith, length-set}
 use Rattle.std.proofs.lemmas.List.{take_more_set}
 use lib.ListN.{get_elem?}
 use Rattle.station_rule.proofs.Lists.{next_read}
 use Rattle.station_rule.specs.declared.view.View.{View}
-use Rattle.station_rule.specs.declared.view.Work.{Work}
 use Rattle.station_rule.specs.Steps.{job_of, rest_jobs}
 use Rattle.input_queue.proofs.take.read_all.Goals as goal
 

@@ -1,4 +1,4 @@
-use Rattle.std.proofs.Common.{◌≡◌, ◌∷◌, [], take, length}
+use Rattle.std.proofs.Common.{◌≡◌, ◌∷◌, take, length}
 use Rattle.station_rule.specs.Steps.{job_of, rest_jobs}
 use Rattle.input_queue.proofs.take.read_all.Given as goal
 
