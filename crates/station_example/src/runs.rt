@@ -1,0 +1,101 @@
+// An owner and workers at a queue of one place.
+ghost use Rattle.std.specs.Prelude.{◌≡◌, ◌^◌, ◌<◌, ◌≤◌, [], length};
+ghost use Rattle.station_rule.specs.Core.{site_at};
+ghost use Rattle.station_rule.specs.Seats.{IsSeatOf, IsSameSeat, IsOwner, IsServer, IsIdle, HasInstance, book};
+
+use crate::owner::{offer_once, offer_plain};
+use crate::worker::{SumOwner, SumServer, Sums, complete, do_one, work};
+use input_queue::{Take, room, try_take};
+use std::sync::Wait;
+use std::thread;
+use std::thread::Threads;
+
+/// One call at a queue of one place, with two servers. Answers whether each call answered as it should.
+pub fn one_place<R: Wait>(
+    rt: &R,
+    station: &Sums,
+    owner: &mut SumOwner,
+    first: &mut SumServer,
+    second: &mut SumServer,
+) -> bool
+    requires owner { IsSeatOf station.now owner.old.seat × IsOwner owner.old.seat × (owner.old.seat.me.0.entry ≡ []) × (owner.old.seat.me.0.closed ≡ 0) × (book owner.old.seat ≡ []) }
+    requires first { IsSeatOf station.now first.old.seat × IsServer first.old.seat × IsIdle first.old.seat }
+    requires second { IsSeatOf station.now second.old.seat × IsServer second.old.seat × IsIdle second.old.seat }
+    requires instance { HasInstance station.now 0 × ((site_at station.now.layout 0).width ≡ 3) × (0 < station.now.layout.components) × (1 < station.now.layout.slots) }
+{
+    let empty_queue = room(station, owner, 0);
+    let offered = offer_once(station, owner, 0);
+    let full_queue = !room(station, owner, 0);
+    let refused = !offer_once(station, owner, 1);
+    let mut input = [0u64; 3];
+    let job = match try_take(station, first, 0, &mut input) {
+        Take::Taken(job) => job,
+        Take::Empty => return false,
+        Take::Busy => return false,
+    };
+    let first_call = job.number() == 1;
+    let busy = is_busy(rt, station, second);
+    complete(rt, station, first, job, &input);
+    let none_waits = !do_one(rt, station, second, 0);
+    empty_queue
+        && offered
+        && full_queue
+        && refused
+        && first_call
+        && busy
+        && none_waits
+        && room(station, owner, 0)
+}
+
+fn is_busy<R: Wait>(rt: &R, station: &Sums, server: &mut SumServer) -> bool
+    requires server { IsSeatOf station.now server.old.seat × IsServer server.old.seat × IsIdle server.old.seat }
+    requires instance { HasInstance station.now 0 × ((site_at station.now.layout 0).width ≡ 3) × (0 < station.now.layout.components) }
+    ensures { IsSameSeat server.old.seat server.new.seat × IsSeatOf station.now server.new.seat × IsServer server.new.seat × IsIdle server.new.seat }
+{
+    let mut input = [0u64; 3];
+    match try_take(station, server, 0, &mut input) {
+        Take::Taken(job) => {
+            complete(rt, station, server, job, &input);
+            false
+        }
+        Take::Empty => false,
+        Take::Busy => true,
+    }
+}
+
+fn offer_and_close(station: &Sums, owner: &mut SumOwner, count: u64) -> u64
+    requires owner { IsSeatOf station.now owner.old.seat × IsOwner owner.old.seat × (owner.old.seat.me.0.entry ≡ []) × (owner.old.seat.me.0.closed ≡ 0) × (book owner.old.seat ≡ []) }
+    requires instance { HasInstance station.now 0 × ((site_at station.now.layout 0).width ≡ 3) }
+    requires slots { (count ≤ station.now.layout.slots) × (count < 2 ^ 19) }
+    ensures { IsSameSeat owner.old.seat owner.new.seat × IsSeatOf station.now owner.new.seat × IsOwner owner.new.seat }
+{
+    let offered = offer_plain(station, owner, count);
+    station.close(owner);
+    offered
+}
+
+/// Answers how many calls were offered, and how many the worker did. The worker's seat is given up.
+pub fn run<R: Threads + Wait + Sync>(
+    rt: &R,
+    station: &Sums,
+    owner: SumOwner,
+    server: SumServer,
+    count: u64,
+) -> (u64, u64)
+    requires owner { IsSeatOf station.now owner.seat × IsOwner owner.seat × (owner.seat.me.0.entry ≡ []) × (owner.seat.me.0.closed ≡ 0) × (book owner.seat ≡ []) }
+    requires server { IsSeatOf station.now server.seat × IsServer server.seat × IsIdle server.seat }
+    requires instance { HasInstance station.now 0 × ((site_at station.now.layout 0).width ≡ 3) × (0 < station.now.layout.components) }
+    requires slots { (count ≤ station.now.layout.slots) × (count < 2 ^ 19) }
+{
+    let mut owner = owner;
+    let mut server = server;
+    thread::join(
+        rt,
+        move ||
+            requires { IsSeatOf station.now owner.seat × IsOwner owner.seat × (owner.seat.me.0.entry ≡ []) × (owner.seat.me.0.closed ≡ 0) × (book owner.seat ≡ []) × HasInstance station.now 0 × ((site_at station.now.layout 0).width ≡ 3) × (count ≤ station.now.layout.slots) × (count < 2 ^ 19) }
+        { offer_and_close(station, &mut owner, count) },
+        move ||
+            requires { IsSeatOf station.now server.seat × IsServer server.seat × IsIdle server.seat × HasInstance station.now 0 × ((site_at station.now.layout 0).width ≡ 3) × (0 < station.now.layout.components) }
+        { work(rt, station, &mut server) },
+    )
+}
