@@ -29,7 +29,7 @@ pub record Run : Type 0 where
   pub lists : List (List (List ℕ))
   pub rows : List (List ℕ)
   pub no_replies : HasNoReplies w
-  pub tell : PathsTell w text sites
+  pub tell : PathsTell w rows text sites
   pub own : AreOwn w sites lists rows
 
 abbrev pub under : Run → Setting
@@ -39,7 +39,7 @@ abbrev pub case_at : Run → Site → List (Bool × List ℕ) → Case
 case_at r site calls = record { w = r.w; rows = r.rows; site = site; marks = marks_of calls; inputs = map (λ d. d.1) calls; seen = by_site r.sites r.lists }
 
 abbrev pub IsReached : Run → Question → Type 0
-IsReached r q = Reached r.w r.text r.sites q
+IsReached r q = Reached r.w r.rows r.text r.sites q
 
 -- what is known under the replies, and alone within the calls of a site
 pub record Known (r : Run) (q : Question) (a : Answer) : Type 0 where
@@ -48,7 +48,7 @@ pub record Known (r : Run) (q : Question) (a : Answer) : Type 0 where
       q ≡ there site shape t → Lifted (case_at r site calls) shape n again a
 
 abbrev K : Run → Question → Answer → Type 0
-K r q a = IsReached r q → Known r q a
+K r q a = Knows r.w r.rows q a × (IsReached r q → Known r q a)
 
 abbrev There : Run → Rule → Answer → Type 0
 There r d a = Follows (Known r) r.rows d a
@@ -56,10 +56,10 @@ There r d a = Follows (Known r) r.rows d a
 abbrev Under : Run → Rule → Answer → Type 0
 Under r d a = Follows (Knows (under r) r.rows) r.rows d a
 
-reach : (r : Run) (d : Rule) (a : Answer) → ((p : Question) → AskedBy d p → IsReached r p) → Follows (K r) r.rows d a → There r d a
+reach : (r : Run) (d : Rule) (a : Answer) → ((p : Question) → AskedBy r.w r.rows d p → IsReached r p) → Follows (K r) r.rows d a → There r d a
 reach r d a h said = said
 reach r d a h (read e) = read e
-reach r d a h (asked {q = q} {go = go} {a = b} k f) = asked (k (h q at_once)) (reach r (go b) a (λ p m. h p (after_answer b m)) f)
+reach r d a h (asked {q = q} {go = go} {a = b} k f) = asked (k.1 (h q at_once)) (reach r (go b) a (λ p m. h p (after_answer k.0 m)) f)
 
 within_of : (r : Run) (site : Site) (calls : List (Bool × List ℕ)) {d : Rule} {a : Answer} → There r d a → Within (case_at r site calls) d a
 within_of r site calls said = said
@@ -334,8 +334,13 @@ known_under r (Restarted s t) a known reached f = plain_known r (Restarted_at s)
 known_under r (Active_state s states t) a known reached f = plain_known r (Active_state_at s states) t tt a known f
 known_under r (Left_state s states t) a known reached f = plain_known r (Left_state_at s states) t tt a known f
 
-keep : (r : Run) (q : Question) (a : Answer) → Follows (K r) r.rows (rule r.w q) a → a ≢ Unknown → K r q a
-keep r q a f known reached =
+firsts : (r : Run) {d : Rule} {a : Answer} → Follows (K r) r.rows d a → Follows (Knows r.w r.rows) r.rows d a
+firsts r said = said
+firsts r (read e) = read e
+firsts r (asked k f) = asked k.0 (firsts r f)
+
+keep_reached : (r : Run) (q : Question) (a : Answer) → Follows (K r) r.rows (rule r.w q) a → a ≢ Unknown → IsReached r q → Known r q a
+keep_reached r q a f known reached =
     let g : There r (rule r.w q) a = reach r (rule r.w q) a (λ p m. of_rule reached m) f in
     record {
       under_replies = known_under r q a known reached g;
@@ -343,9 +348,12 @@ keep r q a f known reached =
           lifted (case_at r site calls) shape t n again h a (subst (λ (p : Question). Within (case_at r site calls) (rule r.w p) a) e (within_of r site calls g)) known;
     }
 
+keep : (r : Run) (q : Question) (a : Answer) → Follows (K r) r.rows (rule r.w q) a → a ≢ Unknown → K r q a
+keep r q a f known = (to_rule r.w r.rows q a (firsts r f) known, λ reached. keep_reached r q a f known reached)
+
 -- what is known without replies of a question that may be reached is known under them
 pub known_with_replies : (r : Run) (q : Question) (a : Answer) → IsReached r q → Knows r.w r.rows q a → Knows (under r) r.rows q a
-known_with_replies r q a reached h = (induction (K r) r.w r.rows (keep r) q a h reached).under_replies
+known_with_replies r q a reached h = ((induction (K r) r.w r.rows (keep r) q a h).1 reached).under_replies
 
 -- ---- outputs and what is sent
 
