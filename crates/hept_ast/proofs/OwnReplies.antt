@@ -10,7 +10,7 @@ use Rattle.hept_ast.specs.Outputs.{Knows, Follows, said, read, asked, HaveValues
 use Rattle.hept_ast.specs.Sites.{Site, path_of, SentFrom, end, no_call, call, Sent, by_site, with_replies}
 use Rattle.hept_ast.specs.Calls.{marks_of, GivenOutputs}
 use Rattle.hept_ast.specs.Marks.{HasNoReplies}
-use Rattle.hept_ast.specs.OwnReplies.{AskedBy, at_once, after_answer, Reached, of_top, of_restart, of_presence, of_argument, of_rule, IsCallOf, PathsTell, AreOwn, OwnRepliesKeepOutputs, OwnRepliesKeepSent}
+use Rattle.hept_ast.specs.OwnReplies.{AskedBy, at_once, after_answer, Reached, of_top, of_restart, of_presence, of_argument, of_rule, IsCallOf, PathsTell, OutputsFit, AreOwn, OwnRepliesKeepOutputs, OwnRepliesKeepSent}
 use Rattle.hept_ast.specs.declared.tree.Expr.{Expr}
 use Rattle.hept_ast.specs.declared.tree.MergeBranch.{MergeBranch}
 use Rattle.hept_ast.specs.declared.tree.Form.{Form, out-Form}
@@ -30,6 +30,7 @@ pub record Run : Type 0 where
   pub rows : List (List ℕ)
   pub no_replies : HasNoReplies w
   pub tell : PathsTell w rows text sites
+  pub fit : OutputsFit w rows text sites
   pub own : AreOwn w sites lists rows
 
 abbrev pub under : Run → Setting
@@ -323,7 +324,7 @@ output_by r e j clock s t a known tell (asked {a = x} k f) =
 known_under : (r : Run) (q : Question) (a : Answer) → a ≢ Unknown → IsReached r q → There r (rule r.w q) a → Knows (under r) r.rows q a
 known_under r (Gives e clock s t) a known reached f = plain_known r (Gives_at e clock s) t tt a known f
 known_under r (Output e j clock s t) a known reached f =
-    to_rule (under r) r.rows (Output e j clock s t) a (output_by r e j clock s t a known (λ c i site is at path. r.tell e j clock s t c i site reached is at path) f) known
+    to_rule (under r) r.rows (Output e j clock s t) a (output_by r e j clock s t a known (λ c i site is at path. (r.tell e j clock s t c i site reached is at path, r.fit e j clock s t c reached is)) f) known
 known_under r (Variable x s t) a known reached f = plain_known r (Variable_at x s) t tt a known f
 known_under r (Last x s t) a known reached f = plain_known r (Last_at x s) t tt a known f
 known_under r (Defined x s t) a known reached f = plain_known r (Defined_at x s) t tt a known f
@@ -371,8 +372,8 @@ outputs_under r t (row ∷ left) [] h = elim h [ ]
 outputs_under r t (row ∷ left) (out ∷ outs) h = (values_under r t (outputs_of r.text) out h.0, outputs_under r (suc t) left outs h.1)
 
 pub own_replies_keep_outputs : OwnRepliesKeepOutputs
-own_replies_keep_outputs w text sites lists rows outs none tell own h =
-    outputs_under (record { w = w; text = text; sites = sites; lists = lists; rows = rows; no_replies = none; tell = tell; own = own }) 0 rows outs h
+own_replies_keep_outputs w text sites lists rows outs none tell fit own h =
+    outputs_under (record { w = w; text = text; sites = sites; lists = lists; rows = rows; no_replies = none; tell = tell; fit = fit; own = own }) 0 rows outs h
 
 arguments_under : (r : Run) (i : ℕ) (site : Site) (t : ℕ) (es : List Expr) (vs : List ℕ) → slice_get r.sites i ≡ Some site →
     ((j : ℕ) (e : Expr) → slice_get es j ≡ Some e → IsReached r (Gives e site.clock site.scope t)) →
@@ -395,5 +396,5 @@ sent_under r i site at again t left calls (call {restarted = now} {left = l} {ar
     (sent_under r i site at false (suc t) l rest more)
 
 pub own_replies_keep_sent : OwnRepliesKeepSent
-own_replies_keep_sent w text sites lists rows i site calls none tell own at h =
-    sent_under (record { w = w; text = text; sites = sites; lists = lists; rows = rows; no_replies = none; tell = tell; own = own }) i site at false 0 (length rows) calls h
+own_replies_keep_sent w text sites lists rows i site calls none tell fit own at h =
+    sent_under (record { w = w; text = text; sites = sites; lists = lists; rows = rows; no_replies = none; tell = tell; fit = fit; own = own }) i site at false 0 (length rows) calls h

@@ -32,12 +32,16 @@ pub record IsCallOf (site : Site) (s : Scope) (clock : Clock) (place : ℕ) (cal
   pub args : site.args ≡ call.0
   pub text : site.text ≡ call.1
 
--- A call that is reached, and that has the path of a site, is that site's, and an output of its node is asked for. It holds where
--- the places of the calls in each node's text differ, the variables of one left side have one clock, and right sides fit their left sides.
+-- a call that is reached, and that has the path of a site, is that site's
 abbrev pub PathsTell : Setting → (rows : List (List ℕ)) → Text → List Site → Type 0
 PathsTell w rows text sites = (e : Expr) (j : ℕ) (clock : Clock) (s : Scope) (t : ℕ) (call : List Expr × Text) (i : ℕ) (site : Site) →
     Reached w rows text sites (Output e j clock s t) → call_of w (out-Form e.form) ≡ Some call → slice_get sites i ≡ Some site →
-    path_of site ≡ calls_around s ++ e.place.0 ∷ [] → IsCallOf site s clock e.place.0 call × (j < length (outputs_of call.1))
+    path_of site ≡ calls_around s ++ e.place.0 ∷ [] → IsCallOf site s clock e.place.0 call
+
+-- each output that is asked of a call is one of its node's: right sides fit their left sides, and no called node is without outputs
+abbrev pub OutputsFit : Setting → (rows : List (List ℕ)) → Text → List Site → Type 0
+OutputsFit w rows text sites = (e : Expr) (j : ℕ) (clock : Clock) (s : Scope) (t : ℕ) (call : List Expr × Text) →
+    Reached w rows text sites (Output e j clock s t) → call_of w (out-Form e.form) ≡ Some call → j < length (outputs_of call.1)
 
 -- under these replies the sites are sent some calls, and the replies are what the sites' nodes give alone on them
 abbrev pub AreOwn : Setting → List Site → List (List (List ℕ)) → (rows : List (List ℕ)) → Type 0
@@ -47,11 +51,11 @@ AreOwn w sites lists rows = (i : ℕ) (site : Site) → slice_get sites i ≡ So
 -- the outputs are the outputs under such replies
 abbrev pub OwnRepliesKeepOutputs : Type 0
 OwnRepliesKeepOutputs = (w : Setting) (text : Text) (sites : List Site) (lists : List (List (List ℕ))) (rows outs : List (List ℕ)) →
-    HasNoReplies w → PathsTell w rows text sites → AreOwn w sites lists rows →
+    HasNoReplies w → PathsTell w rows text sites → OutputsFit w rows text sites → AreOwn w sites lists rows →
     Outputs w text rows outs → Outputs (with_replies w sites lists) text rows outs
 
 -- and what a site is sent is what it is sent under such replies
 abbrev pub OwnRepliesKeepSent : Type 0
 OwnRepliesKeepSent = (w : Setting) (text : Text) (sites : List Site) (lists : List (List (List ℕ))) (rows : List (List ℕ)) (i : ℕ) (site : Site) (calls : List (Bool × List ℕ)) →
-    HasNoReplies w → PathsTell w rows text sites → AreOwn w sites lists rows → slice_get sites i ≡ Some site →
+    HasNoReplies w → PathsTell w rows text sites → OutputsFit w rows text sites → AreOwn w sites lists rows → slice_get sites i ≡ Some site →
     Sent w rows site calls → Sent (with_replies w sites lists) rows site calls

@@ -1,0 +1,77 @@
+-- What stands in the text of a node, and that a path names one call.
+use Rattle.std.specs.Prelude.{◌≡◌, ℕ, true, List, [], ◌∷◌, Some}
+use Rattle.hept_ast.specs.Texts.{Name, is_in}
+use Rattle.hept_ast.specs.Scopes.{Clock, Text, Scope, Top, Called, In_branch, In_body, In_state, Under, Written, text_of}
+use Rattle.hept_ast.specs.Meaning.{Setting, clock_seen, call_of}
+use Rattle.hept_ast.specs.Sites.{Piece, Expression, Statement, Body, Site, Sites, expressions, form_pieces, clock_of_left, pieces}
+use Rattle.hept_ast.specs.OwnReplies.{PathsTell}
+use Rattle.hept_ast.specs.declared.name.Place.{Place}
+use Rattle.hept_ast.specs.declared.tree.Expr.{Expr}
+use Rattle.hept_ast.specs.declared.tree.MergeBranch.{MergeBranch}
+use Rattle.hept_ast.specs.declared.tree.Form.{Form, out-Form}
+use Rattle.hept_ast.specs.declared.tree.Form.TheOpen.{Form-F}
+use Rattle.hept_ast.specs.declared.tree.Block.{Block}
+use Rattle.hept_ast.specs.declared.tree.Branch.{Branch}
+use Rattle.hept_ast.specs.declared.tree.State.{State}
+use Rattle.hept_ast.specs.declared.tree.Node.{Node}
+use Rattle.hept_ast.specs.declared.tree.Equation.{Equation, out-Equation}
+use Rattle.hept_ast.specs.declared.tree.Equation.TheOpen.{Equation-F}
+
+pub data IsAmong (piece : Piece) : List Piece → Type 0 where
+  at_head : {rest : List Piece} → IsAmong piece (piece ∷ rest)
+  in_tail : {other : Piece} {rest : List Piece} → IsAmong piece rest → IsAmong piece (other ∷ rest)
+
+-- the pieces of a piece without the bodies of called nodes
+abbrev pub form_inside : Setting → Form-F Form Expr MergeBranch → Expr → Clock → Scope → List Piece
+form_inside w (Form-F.Call f args) e clock s = expressions args clock s
+form_inside w f e clock s = form_pieces w f e clock s
+
+abbrev pub inside : Setting → Piece → List Piece
+inside w (Expression e clock s) = form_inside w (out-Form e.form) e clock s
+inside w piece = pieces w piece
+
+-- a piece stands in another, in the text of one node
+pub data StandsIn (w : Setting) : Piece → Piece → Type 0 where
+  itself : {piece : Piece} → StandsIn w piece piece
+  deeper : {piece part other : Piece} → IsAmong part (inside w piece) → StandsIn w part other → StandsIn w piece other
+
+abbrev pub IsBodyOfNode : Scope → Type 0
+IsBodyOfNode (Top text) = Unit {0}
+IsBodyOfNode (Called s clock place args text) = Unit {0}
+IsBodyOfNode _ = ⊥
+
+-- a scope stands in the body of a node, with what decides whether it is active and restarted
+pub data ScopeIn (w : Setting) (frame : Scope) : Scope → Type 0 where
+  at_body : {s : Scope} → s ≡ frame → IsBodyOfNode s → ScopeIn w frame s
+  at_branch : {s : Scope} {on : Expr} {branch : Branch} → ScopeIn w frame s → StandsIn w (Body frame) (Expression on [] s) →
+      StandsIn w (Body frame) (Body (In_branch s on branch)) → ScopeIn w frame (In_branch s on branch)
+  at_reset : {s : Scope} {every : Expr} {block : Block} → ScopeIn w frame s → StandsIn w (Body frame) (Expression every [] s) →
+      StandsIn w (Body frame) (Body (In_body s every block)) → ScopeIn w frame (In_body s every block)
+  at_state : {s : Scope} {states : List State} {k : ℕ} (n : ℕ) (node : Node) (e : Equation) (p : Place) → text_of s ≡ Written n node → ScopeIn w frame s → StandsIn w (Body frame) (Statement e s) →
+      out-Equation e ≡ Equation-F.Automaton p states → ScopeIn w frame (In_state s states k)
+  at_right : {s : Scope} {resets : List Name} → ScopeIn w frame s → ScopeIn w frame (Under s resets)
+
+-- the bodies of a node and of the nodes called in such bodies
+pub data IsFrame (w : Setting) (text : Text) : Scope → Type 0 where
+  whole_text : IsFrame w text (Top text)
+  of_call : {frame s : Scope} {clock : Clock} {place : ℕ} {args : List Expr} {called : Text} (e : Expr) → IsFrame w text frame → ScopeIn w frame s →
+      StandsIn w (Body frame) (Expression e clock s) → call_of w (out-Form e.form) ≡ Some (args, called) → e.place.0 ≡ place →
+      IsFrame w text (Called s clock place args called)
+
+-- in the body of a node the place of a call tells where it stands
+abbrev pub PlacesTell : Setting → Text → Type 0
+PlacesTell w text = (frame : Scope) → IsFrame w text frame → (e d : Expr) (clock other : Clock) (s u : Scope) (call called : List Expr × Text) →
+    StandsIn w (Body frame) (Expression e clock s) → call_of w (out-Form e.form) ≡ Some call →
+    StandsIn w (Body frame) (Expression d other u) → call_of w (out-Form d.form) ≡ Some called →
+    e.place.0 ≡ d.place.0 → (e ≡ d) × (clock ≡ other) × (s ≡ u)
+
+-- the variables of a left side are on one clock
+abbrev pub LeftsAgree : Setting → Text → Type 0
+LeftsAgree w text = (frame : Scope) → IsFrame w text frame → (e : Equation) (s : Scope) (p : Place) (left : List Name) (right : Expr) (x : Name) →
+    StandsIn w (Body frame) (Statement e s) → out-Equation e ≡ Equation-F.Define p left right → is_in x left ≡ true →
+    clock_seen w x s ≡ clock_of_left w left s
+
+-- where places tell calls of a text apart, paths tell the sites apart from all calls that are reached
+abbrev pub PathsTellCalls : Type 0
+PathsTellCalls = (w : Setting) (rows : List (List ℕ)) (text : Text) (sites : List Site) → PlacesTell w text → LeftsAgree w text →
+    Sites w text sites → PathsTell w rows text sites
