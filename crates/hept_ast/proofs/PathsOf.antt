@@ -14,7 +14,7 @@ use Rattle.hept_ast.proofs.Reaching.{World, Stands, Stood, Good_piece, Good_all,
 
 -- ---- frames
 
-calls_in : (w : Setting) (frame s : Scope) → ScopeIn w frame s → calls_around s ≡ calls_around frame
+pub calls_in : (w : Setting) (frame s : Scope) → ScopeIn w frame s → calls_around s ≡ calls_around frame
 calls_in w frame s (at_body e root) = ap calls_around e
 calls_in w frame (In_branch s on b) (at_branch i o body) = calls_in w frame s i
 calls_in w frame (In_body s every block) (at_reset i o body) = calls_in w frame s i
@@ -78,7 +78,7 @@ stand_append : (c : World) (ps qs : List Site) → All_stand c ps → All_stand 
 stand_append c [] qs h k = k
 stand_append c (p ∷ ps) qs h k = (h.0, stand_append c ps qs h.1 k)
 
-callee_good : (c : World) (e : Expr) (clock : Clock) (s : Scope) (d : Option (List Expr × Text)) → Good_piece c (Expression e clock s) → call_of c.w (out-Form e.form) ≡ d →
+pub callee_good : (c : World) (e : Expr) (clock : Clock) (s : Scope) (d : Option (List Expr × Text)) → Good_piece c (Expression e clock s) → call_of c.w (out-Form e.form) ≡ d →
     Good_all c (callee_pieces c.w d e.place.0 clock s)
 callee_good c e clock s None g is = tt
 callee_good c e clock s (Some (args, text)) g is =
@@ -92,7 +92,7 @@ form_good c (Form-F.Call f args) e clock s is g h =
     (callee_good c e clock s _ g (ap (λ (x : Form-F Form Expr MergeBranch). call_of c.w x) is)) h
 form_good c _ e clock s is g h = h
 
-piece_good : (c : World) (piece : Piece) → Good_piece c piece → Good_all c (pieces c.w piece)
+pub piece_good : (c : World) (piece : Piece) → Good_piece c piece → Good_all c (pieces c.w piece)
 piece_good c (Expression e clock s) h = form_good c (out-Form e.form) e clock s refl h (good_inside_form c e clock s h)
 piece_good c (Statement e s) h = good_inside_equation c e s h
 piece_good c (Core_statement e s) h = (good_inside_core c e s h, tt)
@@ -118,7 +118,7 @@ site_good c (Statement e s) h = tt
 site_good c (Core_statement e s) h = tt
 site_good c (Body s) h = tt
 
-abbrev world : (w : Setting) (rows : List (List ℕ)) (text : Text) → LeftsAgree w text → World
+abbrev pub world : (w : Setting) (rows : List (List ℕ)) (text : Text) → LeftsAgree w text → World
 world w rows text lefts = record { w = w; rows = rows; text = text; lefts = lefts }
 
 mutual
@@ -151,7 +151,7 @@ order_good : (c : World) (text : Text) (sites : List Site) → All_stand c sites
 order_good c (Written n node) sites h = h
 order_good c (Lowered node) sites h = sorted_good c sites h
 
-top_good : (c : World) → Good_piece c (Body (Top c.text))
+pub top_good : (c : World) → Good_piece c (Body (Top c.text))
 top_good c = record { frame = Top c.text; is_frame = whole_text; scope = at_body refl tt; stands = itself; written = tt }
 
 all_good : (c : World) (sites : List Site) → Sites c.w c.text sites → All_stand c sites

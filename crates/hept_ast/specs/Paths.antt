@@ -1,15 +1,16 @@
 -- What stands in the text of a node, and that a path names one call.
-use Rattle.std.specs.Prelude.{◌≡◌, ℕ, true, List, [], ◌∷◌, Some}
+use Rattle.std.specs.Prelude.{◌≡◌, ℕ, true, List, [], ◌∷◌, Some, map}
 use Rattle.hept_ast.specs.Texts.{Name, is_in}
 use Rattle.hept_ast.specs.Scopes.{Clock, Text, Scope, Top, Called, In_branch, In_body, In_state, Under, Written, text_of}
 use Rattle.hept_ast.specs.Meaning.{Setting, clock_seen, call_of}
-use Rattle.hept_ast.specs.Sites.{Piece, Expression, Statement, Body, Site, Sites, expressions, form_pieces, clock_of_left, pieces}
+use Rattle.hept_ast.specs.Sites.{Piece, path_of, Expression, Statement, Body, Site, Sites, expressions, form_pieces, clock_of_left, pieces}
 use Rattle.hept_ast.specs.OwnReplies.{PathsTell}
 use Rattle.hept_ast.specs.declared.name.Place.{Place}
 use Rattle.hept_ast.specs.declared.tree.Expr.{Expr}
 use Rattle.hept_ast.specs.declared.tree.MergeBranch.{MergeBranch}
 use Rattle.hept_ast.specs.declared.tree.Form.{Form, out-Form}
 use Rattle.hept_ast.specs.declared.tree.Form.TheOpen.{Form-F}
+use Rattle.hept_ast.specs.CallPlaces.{text_places}
 use Rattle.hept_ast.specs.declared.tree.Block.{Block}
 use Rattle.hept_ast.specs.declared.tree.Branch.{Branch}
 use Rattle.hept_ast.specs.declared.tree.State.{State}
@@ -17,9 +18,9 @@ use Rattle.hept_ast.specs.declared.tree.Node.{Node}
 use Rattle.hept_ast.specs.declared.tree.Equation.{Equation, out-Equation}
 use Rattle.hept_ast.specs.declared.tree.Equation.TheOpen.{Equation-F}
 
-pub data IsAmong (piece : Piece) : List Piece → Type 0 where
-  at_head : {rest : List Piece} → IsAmong piece (piece ∷ rest)
-  in_tail : {other : Piece} {rest : List Piece} → IsAmong piece rest → IsAmong piece (other ∷ rest)
+pub data IsAmong {A : Type 0} (x : A) : List A → Type 0 where
+  at_head : {rest : List A} → IsAmong x (x ∷ rest)
+  in_tail : {other : A} {rest : List A} → IsAmong x rest → IsAmong x (other ∷ rest)
 
 -- the pieces of a piece without the bodies of called nodes
 abbrev pub form_inside : Setting → Form-F Form Expr MergeBranch → Expr → Clock → Scope → List Piece
@@ -75,3 +76,21 @@ LeftsAgree w text = (frame : Scope) → IsFrame w text frame → (e : Equation) 
 abbrev pub PathsTellCalls : Type 0
 PathsTellCalls = (w : Setting) (rows : List (List ℕ)) (text : Text) (sites : List Site) → PlacesTell w text → LeftsAgree w text →
     Sites w text sites → PathsTell w rows text sites
+
+-- no element stands twice in a list
+abbrev pub AllDiffer : {A : Type 0} → List A → Type 0
+AllDiffer [] = Unit {0}
+AllDiffer (x ∷ xs) = (IsAmong x xs → ⊥) × AllDiffer xs
+
+-- in each node's text no two calls have one place
+pub record PlacesDiffer (w : Setting) (text : Text) : Type 0 where
+  pub own : AllDiffer (text_places text)
+  pub called : (f : Name) (other : Text) → w.node f ≡ Some other → AllDiffer (text_places other)
+
+-- then places tell calls apart
+abbrev pub PlacesTellCalls : Type 0
+PlacesTellCalls = (w : Setting) (text : Text) → LeftsAgree w text → PlacesDiffer w text → PlacesTell w text
+
+-- and no two sites have one path
+abbrev pub PathsDiffer : Type 0
+PathsDiffer = (w : Setting) (text : Text) (sites : List Site) → LeftsAgree w text → PlacesDiffer w text → Sites w text sites → AllDiffer (map path_of sites)

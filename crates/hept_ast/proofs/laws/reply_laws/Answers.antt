@@ -1,4 +1,3 @@
-use Rattle.hept_ast.proofs.PathsOf.{paths_tell_calls}
 use Rattle.hept_ast.proofs.OwnReplies.{own_replies_keep_outputs, own_replies_keep_sent}
 use Rattle.hept_ast.proofs.laws.reply_laws.Goals as goal
 
@@ -7,6 +6,3 @@ returns-clause-own_replies c = own_replies_keep_outputs
 
 pub returns-clause-own_replies_sent : goal.returns-clause-own_replies_sent
 returns-clause-own_replies_sent c = own_replies_keep_sent
-
-pub returns-clause-paths : goal.returns-clause-paths
-returns-clause-paths c = paths_tell_calls

@@ -1,0 +1,13 @@
+use Rattle.hept_ast.proofs.CallPlacesOf.{places_tell_calls}
+use Rattle.hept_ast.proofs.PathsApart.{paths_differ}
+use Rattle.hept_ast.proofs.PathsOf.{paths_tell_calls}
+use Rattle.hept_ast.proofs.laws.path_laws.Goals as goal
+
+pub returns-clause-paths : goal.returns-clause-paths
+returns-clause-paths c = paths_tell_calls
+
+pub returns-clause-places : goal.returns-clause-places
+returns-clause-places c = places_tell_calls
+
+pub returns-clause-paths_differ : goal.returns-clause-paths_differ
+returns-clause-paths_differ c = paths_differ
