@@ -23,6 +23,7 @@ use Rattle.hept_ast.specs.declared.tree.Equation.{Equation, out-Equation}
 use Rattle.hept_ast.specs.declared.tree.Equation.TheOpen.{Equation-F}
 use Rattle.hept_ast.specs.declared.tree.CoreEquation.{CoreEquation}
 use Rattle.hept_ast.proofs.Depths.{to_rule, one_answer, induction}
+use Rattle.hept_ast.proofs.OtherReplies.{IsNoOutput}
 use Rattle.hept_ast.proofs.CallAlone.{Shape, Gives_at, Output_at, Variable_at, Last_at, Defined_at, Defines_at, Present_at, Active_at, Restarted_at, Active_state_at, Left_state_at, here}
 
 -- instant t after instant n, by recursion on t
@@ -43,38 +44,43 @@ input_later zero rows t j = ap (λ (k : ℕ). input_at rows k j) (later_is 0 t �
 input_later (suc n) [] t j = refl
 input_later (suc n) (row ∷ rows) t j = ap (λ (k : ℕ). input_at (row ∷ rows) k j) (later_first n t) ∙ input_later n rows t j
 
--- a run, the instant of a mark, and the rows
+-- a run, the instant of a mark, the rows, and the replies from there on
 pub record Case : Type 0 where
   pub w : Setting
   pub n : ℕ
   pub rows : List (List ℕ)
-  pub no_replies : HasNoReplies w
+  pub later_replies : List ℕ → ℕ → Option (List ℕ)
   pub mark : w.marked n ≡ true
 
 abbrev pub after_mark : Case → Setting
-after_mark c = record c.w { marked = λ t. c.w.marked (later c.n t) }
+after_mark c = record c.w { marked = λ t. c.w.marked (later c.n t); replies = c.later_replies }
+
+-- no call has a reply, before the mark and from there on
+pub record NoneReplied (c : Case) : Type 0 where
+  pub before : (path : List ℕ) (k : ℕ) → c.w.replies path k ≡ None
+  pub from_there : (path : List ℕ) (k : ℕ) → c.later_replies path k ≡ None
 
 abbrev pub inputs : Case → List (List ℕ)
 inputs c = drop c.n c.rows
 
-abbrev K : Case → Question → Answer → Type 0
+abbrev pub K : Case → Question → Answer → Type 0
 K c q a = Knows c.w c.rows q a × ((shape : Shape) (t : ℕ) → q ≡ here shape (later c.n t) → Knows (after_mark c) (inputs c) (here shape t) a)
 
-abbrev Whole : Case → Rule → Answer → Type 0
+abbrev pub Whole : Case → Rule → Answer → Type 0
 Whole c d a = Follows (K c) c.rows d a
 
-abbrev There : Case → Rule → Answer → Type 0
+abbrev pub There : Case → Rule → Answer → Type 0
 There c d a = Follows (Knows (after_mark c) (inputs c)) (inputs c) d a
 
-record Leads (c : Case) (d d' : Rule) : Type 0 where
-  leads : (a : Answer) → Whole c d a → a ≢ Unknown → There c d' a
+pub record Leads (c : Case) (d d' : Rule) : Type 0 where
+  pub leads : (a : Answer) → Whole c d a → a ≢ Unknown → There c d' a
 
 -- ---- words
 
 says_by : (c : Case) (b a : Answer) → Whole c (Says b) a → There c (Says b) a
 says_by c b a said = said
 
-says : {c : Case} {b : Answer} → Leads c (Says b) (Says b)
+pub says : {c : Case} {b : Answer} → Leads c (Says b) (Says b)
 says {c} {b} = record { leads = λ a f known. says_by c b a f }
 
 reads_by : (c : Case) (t j : ℕ) (a : Answer) → Whole c (Reads (later c.n t) j) a → There c (Reads t j) a
@@ -83,7 +89,7 @@ reads_by c t j a (read e) = read (sym (input_later c.n c.rows t j) ∙ e)
 unknown_by : (c : Case) (d : Rule) (a : Answer) → Whole c (Says Unknown) a → a ≢ Unknown → There c d a
 unknown_by c d a said known = absurd (known refl)
 
-anything : {c : Case} {d : Rule} → Leads c (Says Unknown) d
+pub anything : {c : Case} {d : Rule} → Leads c (Says Unknown) d
 anything {c} {d} = record { leads = λ a f known. unknown_by c d a f known }
 
 reads : {c : Case} (t j : ℕ) → Leads c (Reads (later c.n t) j) (Reads t j)
@@ -93,10 +99,10 @@ asks_by : (c : Case) (t : ℕ) (shape : Shape) (go go' : Answer → Rule) → ((
     (a : Answer) → Whole c (Asks (here shape (later c.n t)) go) a → a ≢ Unknown → There c (Asks (here shape t) go') a
 asks_by c t shape go go' l a (asked {a = x} k f) known = asked (k.1 shape t refl) ((l x).leads a f known)
 
-asks : {c : Case} (t : ℕ) (shape : Shape) {go go' : Answer → Rule} → ((x : Answer) → Leads c (go x) (go' x)) → Leads c (Asks (here shape (later c.n t)) go) (Asks (here shape t) go')
+pub asks : {c : Case} (t : ℕ) (shape : Shape) {go go' : Answer → Rule} → ((x : Answer) → Leads c (go x) (go' x)) → Leads c (Asks (here shape (later c.n t)) go) (Asks (here shape t) go')
 asks {c} t shape {go} {go'} l = record { leads = λ a f known. asks_by c t shape go go' l a f known }
 
-if_leads : {c : Case} (b : Bool) {d e d' e' : Rule} → Leads c d d' → Leads c e e' → Leads c (if b then d else e) (if b then d' else e')
+pub if_leads : {c : Case} (b : Bool) {d e d' e' : Rule} → Leads c d d' → Leads c e e' → Leads c (if b then d else e) (if b then d' else e')
 if_leads true h k = h
 if_leads false h k = k
 
@@ -169,7 +175,7 @@ count_by c shape zero go go' l a known f = let r : (m : ℕ) × Whole c (go m) a
 count_by c shape (suc t) go go' l a known (asked {a = x} k f) =
     asked (k.1 shape t refl) (count_by c shape t _ _ (λ m j. l (if is_true x then m + 1 else m) (if is_true x then j + 1 else j)) a known f)
 
-count : {c : Case} (t : ℕ) (shape : Shape) {go go' : ℕ → Rule} → ((m k : ℕ) → Leads c (go m) (go' k)) → Leads c (count_before (here shape) go (later c.n t)) (count_before (here shape) go' t)
+pub count : {c : Case} (t : ℕ) (shape : Shape) {go go' : ℕ → Rule} → ((m k : ℕ) → Leads c (go m) (go' k)) → Leads c (count_before (here shape) go (later c.n t)) (count_before (here shape) go' t)
 count {c} t shape {go} {go'} l = record { leads = λ a f known. count_by c shape t go go' l a known f }
 
 -- ---- what does not look at marks
@@ -190,7 +196,7 @@ same_seen c x (Under s resets) = refl
 
 -- ---- rules
 
-present_leads : {c : Case} (t : ℕ) → (clock : Clock) (s : Scope) → {d d' : Rule} → Leads c d d' →
+pub present_leads : {c : Case} (t : ℕ) → (clock : Clock) (s : Scope) → {d d' : Rule} → Leads c d d' →
     Leads c (if_present (Present clock s (later c.n t)) d) (if_present (Present clock s t) d')
 present_leads {c} t clock s l = asks t (Present_at clock s) (λ a. if_leads (is_true a) l says)
 
@@ -241,19 +247,19 @@ reply_by c None None e f j h = h
 reply_by c (Some o) p e f j h = cc
 reply_by c None (Some p) e f j h = cc
 
-output_leads : {c : Case} (t : ℕ) → (d : Option (List Expr × Text)) (place j : ℕ) (clock : Clock) (s : Scope) →
+output_leads : {c : Case} → NoneReplied c → (t : ℕ) → (d : Option (List Expr × Text)) (place j : ℕ) (clock : Clock) (s : Scope) →
     Leads c (output_rule c.w d place j clock s (later c.n t)) (output_rule (after_mark c) d place j clock s t)
-output_leads {c} t None place j clock s = anything
-output_leads {c} t (Some d) place j clock s = count t (Present_at clock s) (λ m k.
-    reply_by c _ _ (c.no_replies (calls_around s ++ place ∷ []) m) (c.no_replies (calls_around s ++ place ∷ []) k) j
+output_leads {c} nr t None place j clock s = anything
+output_leads {c} nr t (Some d) place j clock s = count t (Present_at clock s) (λ m k.
+    reply_by c _ _ (nr.before (calls_around s ++ place ∷ []) m) (nr.from_there (calls_around s ++ place ∷ []) k) j
     (asks t (Variable_at (slice_index_or (outputs_of d.1) j []) (Called s clock place d.0 d.1)) (λ a. says)))
 
-outputs_leads : {c : Case} (t : ℕ) → (f : Form-F Form Expr MergeBranch) (e : Expr) (j : ℕ) (clock : Clock) (s : Scope) →
+outputs_leads : {c : Case} → NoneReplied c → (t : ℕ) → (f : Form-F Form Expr MergeBranch) (e : Expr) (j : ℕ) (clock : Clock) (s : Scope) →
     Leads c (outputs_rule c.w f e j clock s (later c.n t)) (outputs_rule (after_mark c) f e j clock s t)
-outputs_leads {c} t (Form-F.Get a) e j clock s = asks t (Output_at a j clock s) (λ x. says)
-outputs_leads {c} t (Form-F.Call f args) e j clock s = output_leads t _ e.place.0 j clock s
-outputs_leads {c} t (Form-F.AsyncCall q f args) e j clock s = output_leads t _ e.place.0 j clock s
-outputs_leads {c} t _ e j clock s = output_leads t None e.place.0 j clock s
+outputs_leads {c} nr t (Form-F.Get a) e j clock s = asks t (Output_at a j clock s) (λ x. says)
+outputs_leads {c} nr t (Form-F.Call f args) e j clock s = output_leads nr t _ e.place.0 j clock s
+outputs_leads {c} nr t (Form-F.AsyncCall q f args) e j clock s = output_leads nr t _ e.place.0 j clock s
+outputs_leads {c} nr t _ e j clock s = output_leads nr t None e.place.0 j clock s
 
 -- ---- definitions
 
@@ -417,33 +423,47 @@ restarted_leads t (Under s resets) = too_leads t s (some_leads t resets s)
 
 -- ---- each rule
 
-rule_leads : (c : Case) (shape : Shape) (t : ℕ) → Leads c (rule c.w (here shape (later c.n t))) (rule (after_mark c) (here shape t))
-rule_leads c (Gives_at e clock s) t = present_leads t clock s (form_leads t (out-Form e.form) e clock s)
-rule_leads c (Output_at e j clock s) t = present_leads t clock s (outputs_leads t (out-Form e.form) e j clock s)
-rule_leads c (Variable_at x s) t = variable_rule_leads t x s
-rule_leads c (Last_at x s) t = last_rule_leads t x s
-rule_leads c (Defined_at x s) t = defined_rule_leads t x s
-rule_leads c (Defines_at x e) t = defines_leads t (out-Equation e) x
-rule_leads c (Present_at clock s) t = asks t (Active_at s) (λ b. if_leads (is_true b) (steps_leads t clock s) says)
-rule_leads c (Active_at s) t = active_leads t s
-rule_leads c (Restarted_at s) t = restarted_leads t s
-rule_leads c (Active_state_at s states) t = active_state_leads t s states
-rule_leads c (Left_state_at s states) t = left_state_leads t s states
+-- the rule of each question but of a call's outputs
+pub plain_leads : (c : Case) (shape : Shape) (t : ℕ) → IsNoOutput (here shape t) → Leads c (rule c.w (here shape (later c.n t))) (rule (after_mark c) (here shape t))
+plain_leads c (Gives_at e clock s) t plain = present_leads t clock s (form_leads t (out-Form e.form) e clock s)
+plain_leads c (Output_at e j clock s) t plain = absurd plain
+plain_leads c (Variable_at x s) t plain = variable_rule_leads t x s
+plain_leads c (Last_at x s) t plain = last_rule_leads t x s
+plain_leads c (Defined_at x s) t plain = defined_rule_leads t x s
+plain_leads c (Defines_at x e) t plain = defines_leads t (out-Equation e) x
+plain_leads c (Present_at clock s) t plain = asks t (Active_at s) (λ b. if_leads (is_true b) (steps_leads t clock s) says)
+plain_leads c (Active_at s) t plain = active_leads t s
+plain_leads c (Restarted_at s) t plain = restarted_leads t s
+plain_leads c (Active_state_at s states) t plain = active_state_leads t s states
+plain_leads c (Left_state_at s states) t plain = left_state_leads t s states
 
-firsts : (c : Case) {d : Rule} {a : Answer} → Whole c d a → Follows (Knows c.w c.rows) c.rows d a
+rule_leads : (c : Case) → NoneReplied c → (shape : Shape) (t : ℕ) → Leads c (rule c.w (here shape (later c.n t))) (rule (after_mark c) (here shape t))
+rule_leads c nr (Output_at e j clock s) t = present_leads t clock s (outputs_leads nr t (out-Form e.form) e j clock s)
+rule_leads c nr (Gives_at e clock s) t = plain_leads c (Gives_at e clock s) t tt
+rule_leads c nr (Variable_at x s) t = plain_leads c (Variable_at x s) t tt
+rule_leads c nr (Last_at x s) t = plain_leads c (Last_at x s) t tt
+rule_leads c nr (Defined_at x s) t = plain_leads c (Defined_at x s) t tt
+rule_leads c nr (Defines_at x e) t = plain_leads c (Defines_at x e) t tt
+rule_leads c nr (Present_at clock s) t = plain_leads c (Present_at clock s) t tt
+rule_leads c nr (Active_at s) t = plain_leads c (Active_at s) t tt
+rule_leads c nr (Restarted_at s) t = plain_leads c (Restarted_at s) t tt
+rule_leads c nr (Active_state_at s states) t = plain_leads c (Active_state_at s states) t tt
+rule_leads c nr (Left_state_at s states) t = plain_leads c (Left_state_at s states) t tt
+
+pub firsts : (c : Case) {d : Rule} {a : Answer} → Whole c d a → Follows (Knows c.w c.rows) c.rows d a
 firsts c said = said
 firsts c (read e) = read e
 firsts c (asked k f) = asked k.0 (firsts c f)
 
-keeps : (c : Case) (q : Question) (a : Answer) → Whole c (rule c.w q) a → a ≢ Unknown → K c q a
-keeps c q a f known = (
+keeps : (c : Case) → NoneReplied c → (q : Question) (a : Answer) → Whole c (rule c.w q) a → a ≢ Unknown → K c q a
+keeps c nr q a f known = (
   to_rule c.w c.rows q a (firsts c f) known,
-  λ shape t e. to_rule (after_mark c) (inputs c) (here shape t) a ((rule_leads c shape t).leads a (subst (λ (p : Question). Whole c (rule c.w p) a) e f) known) known,
+  λ shape t e. to_rule (after_mark c) (inputs c) (here shape t) a ((rule_leads c nr shape t).leads a (subst (λ (p : Question). Whole c (rule c.w p) a) e f) known) known,
 )
 
 -- what the whole run knows from the mark on is known of the run that begins there
-pub known_later : (c : Case) (shape : Shape) (t : ℕ) (a : Answer) → Knows c.w c.rows (here shape (later c.n t)) a → Knows (after_mark c) (inputs c) (here shape t) a
-known_later c shape t a h = (induction (K c) c.w c.rows (keeps c) (here shape (later c.n t)) a h).1 shape t refl
+pub known_later : (c : Case) → NoneReplied c → (shape : Shape) (t : ℕ) (a : Answer) → Knows c.w c.rows (here shape (later c.n t)) a → Knows (after_mark c) (inputs c) (here shape t) a
+known_later c nr shape t a h = (induction (K c) c.w c.rows (keeps c nr) (here shape (later c.n t)) a h).1 shape t refl
 
 -- ---- outputs and what is sent
 
@@ -454,22 +474,26 @@ truth_in _ = false
 is_injective : {b c : Bool} → Is b ≡ Is c → b ≡ c
 is_injective e = ap truth_in e
 
-values_later : (c : Case) (text : Text) (t : ℕ) (xs : List Name) (vs : List ℕ) →
-    HaveValues c.w c.rows (map (λ x. Variable x (Top text) (later c.n t)) xs) vs → HaveValues (after_mark c) (inputs c) (map (λ x. Variable x (Top text) t) xs) vs
-values_later c text t [] [] h = tt
-values_later c text t [] (v ∷ vs) h = elim h [ ]
-values_later c text t (x ∷ xs) [] h = elim h [ ]
-values_later c text t (x ∷ xs) (v ∷ vs) h = (known_later c (Variable_at x (Top text)) t (Value v) h.0, values_later c text t xs vs h.1)
+-- what is known of these questions is known from the mark on
+abbrev pub Goes : (c : Case) → (Question → Type 0) → Type 0
+Goes c P = (shape : Shape) (t : ℕ) (a : Answer) → P (here shape (later c.n t)) → Knows c.w c.rows (here shape (later c.n t)) a → Knows (after_mark c) (inputs c) (here shape t) a
 
-outputs_later : (c : Case) (text : Text) (t : ℕ) (left outs : List (List ℕ)) →
+values_later : (c : Case) (P : Question → Type 0) → Goes c P → (text : Text) → ((x : Name) (t : ℕ) → P (Variable x (Top text) t)) → (t : ℕ) (xs : List Name) (vs : List ℕ) →
+    HaveValues c.w c.rows (map (λ x. Variable x (Top text) (later c.n t)) xs) vs → HaveValues (after_mark c) (inputs c) (map (λ x. Variable x (Top text) t) xs) vs
+values_later c P goes text tops t [] [] h = tt
+values_later c P goes text tops t [] (v ∷ vs) h = elim h [ ]
+values_later c P goes text tops t (x ∷ xs) [] h = elim h [ ]
+values_later c P goes text tops t (x ∷ xs) (v ∷ vs) h = (goes (Variable_at x (Top text)) t (Value v) (tops x (later c.n t)) h.0, values_later c P goes text tops t xs vs h.1)
+
+pub outputs_later : (c : Case) (P : Question → Type 0) → Goes c P → (text : Text) → ((x : Name) (t : ℕ) → P (Variable x (Top text) t)) → (t : ℕ) (left outs : List (List ℕ)) →
     OutputsFrom c.w c.rows text (later c.n t) left outs → OutputsFrom (after_mark c) (inputs c) text t left outs
-outputs_later c text t [] [] h = tt
-outputs_later c text t [] (out ∷ outs) h = elim h [ ]
-outputs_later c text t (row ∷ left) [] h = elim h [ ]
-outputs_later c text t (row ∷ left) (out ∷ outs) h = (values_later c text t (outputs_of text) out h.0, outputs_later c text (suc t) left outs h.1)
+outputs_later c P goes text tops t [] [] h = tt
+outputs_later c P goes text tops t [] (out ∷ outs) h = elim h [ ]
+outputs_later c P goes text tops t (row ∷ left) [] h = elim h [ ]
+outputs_later c P goes text tops t (row ∷ left) (out ∷ outs) h = (values_later c P goes text tops t (outputs_of text) out h.0, outputs_later c P goes text tops (suc t) left outs h.1)
 
 -- the outputs from a later instant on
-outputs_dropped : (w : Setting) (rows : List (List ℕ)) (text : Text) (n t : ℕ) (left outs : List (List ℕ)) →
+pub outputs_dropped : (w : Setting) (rows : List (List ℕ)) (text : Text) (n t : ℕ) (left outs : List (List ℕ)) →
     OutputsFrom w rows text t left outs → OutputsFrom w rows text (n + t) (drop n left) (drop n outs)
 outputs_dropped w rows text zero t left outs h = subst (λ (k : ℕ). OutputsFrom w rows text k left outs) (sym (zero-add t)) h
 outputs_dropped w rows text (suc n) t [] [] h = tt
@@ -482,12 +506,30 @@ outputs_dropped w rows text (suc n) t (row ∷ left) (out ∷ outs) h =
 setting_is : (n : ℕ) (w : Setting) → record w { marked = λ t. w.marked (later n t) } ≡ from_instant n w
 setting_is n w = ap (λ (f : ℕ → Bool). record w { marked = f }) (fun_ext (λ t. ap w.marked (later_is n t)))
 
+-- the outputs from the mark on
+pub outputs_from : (c : Case) (P : Question → Type 0) → Goes c P → (text : Text) → ((x : Name) (t : ℕ) → P (Variable x (Top text) t)) → (outs : List (List ℕ)) →
+    Outputs c.w text c.rows outs → Outputs (after_mark c) text (drop c.n c.rows) (drop c.n outs)
+outputs_from c P goes text tops outs h =
+    let e : c.n + 0 ≡ later c.n 0 = omega arith in
+    outputs_later c P goes text tops 0 (drop c.n c.rows) (drop c.n outs)
+    (subst (λ (k : ℕ). OutputsFrom c.w c.rows text k (drop c.n c.rows) (drop c.n outs)) e (outputs_dropped c.w c.rows text c.n 0 c.rows outs h))
+
+abbrev Any_question : Question → Type 0
+Any_question q = Unit {0}
+
+abbrev silent : (w : Setting) (n : ℕ) (rows : List (List ℕ)) → w.marked n ≡ true → Case
+silent w n rows mark = record { w = w; n = n; rows = rows; later_replies = w.replies; mark = mark }
+
+none_replied : (w : Setting) (n : ℕ) (rows : List (List ℕ)) (mark : w.marked n ≡ true) → HasNoReplies w → NoneReplied (silent w n rows mark)
+none_replied w n rows mark none = record { before = none; from_there = none }
+
+silent_goes : (w : Setting) (n : ℕ) (rows : List (List ℕ)) (mark : w.marked n ≡ true) → HasNoReplies w → Goes (silent w n rows mark) Any_question
+silent_goes w n rows mark none shape t a any h = known_later (silent w n rows mark) (none_replied w n rows mark none) shape t a h
+
 pub outputs_from_mark : OutputsFromMark
 outputs_from_mark w n text rows outs none mark h =
-    let c : Case = record { w = w; n = n; rows = rows; no_replies = none; mark = mark } in
-    let e : n + 0 ≡ later n 0 = omega arith in
     subst (λ (v : Setting). Outputs v text (drop n rows) (drop n outs)) (setting_is n w)
-    (outputs_later c text 0 (drop n rows) (drop n outs) (subst (λ (k : ℕ). OutputsFrom w rows text k (drop n rows) (drop n outs)) e (outputs_dropped w rows text n 0 rows outs h)))
+    (outputs_from (silent w n rows mark) Any_question (silent_goes w n rows mark none) text (λ x t. tt) outs h)
 
 -- the calls before an instant, and those from it on
 record Split (w : Setting) (rows : List (List ℕ)) (site : Site) (n left : ℕ) (calls : List (Bool × List ℕ)) : Type 0 where
@@ -557,36 +599,51 @@ sent_at_mark c site again other _ _ (call {restarted = now} {left = left} {args 
     (either_true other again ∙ ap (λ (x : Bool). again || x) (sym (is_injective (one_answer c.w c.rows _ _ _ r (restarts c site.scope)))))
     (call (restarts c site.scope) p v more)
 
-arguments_later : (c : Case) (site : Site) (t : ℕ) (es : List Expr) (vs : List ℕ) →
+arguments_later : (c : Case) (P : Question → Type 0) → Goes c P → (site : Site) (t : ℕ) (es : List Expr) (vs : List ℕ) →
+    ((j : ℕ) (e : Expr) → slice_get es j ≡ Some e → P (Gives e site.clock site.scope (later c.n t))) →
     HaveValues c.w c.rows (map (λ e. Gives e site.clock site.scope (later c.n t)) es) vs → HaveValues (after_mark c) (inputs c) (map (λ e. Gives e site.clock site.scope t) es) vs
-arguments_later c site t [] [] h = tt
-arguments_later c site t [] (v ∷ vs) h = elim h [ ]
-arguments_later c site t (e ∷ es) [] h = elim h [ ]
-arguments_later c site t (e ∷ es) (v ∷ vs) h = (known_later c (Gives_at e site.clock site.scope) t (Value v) h.0, arguments_later c site t es vs h.1)
+arguments_later c P goes site t [] [] all h = tt
+arguments_later c P goes site t [] (v ∷ vs) all h = elim h [ ]
+arguments_later c P goes site t (e ∷ es) [] all h = elim h [ ]
+arguments_later c P goes site t (e ∷ es) (v ∷ vs) all h =
+    (goes (Gives_at e site.clock site.scope) t (Value v) (all 0 e refl) h.0, arguments_later c P goes site t es vs (λ j d is. all (suc j) d is) h.1)
 
-sent_later : (c : Case) (site : Site) (again : Bool) (t u left : ℕ) → u ≡ later c.n t → (calls : List (Bool × List ℕ)) →
+-- what is asked of a site
+pub record Site_asked (P : Question → Type 0) (site : Site) : Type 0 where
+  pub restart : (t : ℕ) → P (Restarted site.scope t)
+  pub presence : (t : ℕ) → P (Present site.clock site.scope t)
+  pub argument : (t j : ℕ) (e : Expr) → slice_get site.args j ≡ Some e → P (Gives e site.clock site.scope t)
+
+sent_later : (c : Case) (P : Question → Type 0) → Goes c P → (site : Site) → Site_asked P site → (again : Bool) (t u left : ℕ) → u ≡ later c.n t → (calls : List (Bool × List ℕ)) →
     SentFrom c.w c.rows site again u left calls → SentFrom (after_mark c) (inputs c) site again t left calls
-sent_later c site again t u _ e _ end = end
-sent_later c site again t u _ e calls (no_call {restarted = now} {left = left} r p more) = no_call
-    (known_later c (Restarted_at site.scope) t _ (subst (λ (k : ℕ). Knows c.w c.rows (Restarted site.scope k) (Is now)) e r))
-    (known_later c (Present_at site.clock site.scope) t _ (subst (λ (k : ℕ). Knows c.w c.rows (Present site.clock site.scope k) (Is false)) e p))
-    (sent_later c site _ (suc t) (suc u) left (ap suc e) calls more)
-sent_later c site again t u _ e _ (call {restarted = now} {left = left} {args = args} {calls = calls} r p v more) = call
-    (known_later c (Restarted_at site.scope) t _ (subst (λ (k : ℕ). Knows c.w c.rows (Restarted site.scope k) (Is now)) e r))
-    (known_later c (Present_at site.clock site.scope) t _ (subst (λ (k : ℕ). Knows c.w c.rows (Present site.clock site.scope k) (Is true)) e p))
-    (arguments_later c site t site.args args (subst (λ (k : ℕ). HaveValues c.w c.rows (argument_questions site k) args) e v))
-    (sent_later c site false (suc t) (suc u) left (ap suc e) calls more)
+sent_later c P goes site asked_of again t u _ e _ end = end
+sent_later c P goes site asked_of again t u _ e calls (no_call {restarted = now} {left = left} r p more) = no_call
+    (goes (Restarted_at site.scope) t _ (asked_of.restart (later c.n t)) (subst (λ (k : ℕ). Knows c.w c.rows (Restarted site.scope k) (Is now)) e r))
+    (goes (Present_at site.clock site.scope) t _ (asked_of.presence (later c.n t)) (subst (λ (k : ℕ). Knows c.w c.rows (Present site.clock site.scope k) (Is false)) e p))
+    (sent_later c P goes site asked_of _ (suc t) (suc u) left (ap suc e) calls more)
+sent_later c P goes site asked_of again t u _ e _ (call {restarted = now} {left = left} {args = args} {calls = calls} r p v more) = call
+    (goes (Restarted_at site.scope) t _ (asked_of.restart (later c.n t)) (subst (λ (k : ℕ). Knows c.w c.rows (Restarted site.scope k) (Is now)) e r))
+    (goes (Present_at site.clock site.scope) t _ (asked_of.presence (later c.n t)) (subst (λ (k : ℕ). Knows c.w c.rows (Present site.clock site.scope k) (Is true)) e p))
+    (arguments_later c P goes site t site.args args (λ j d is. asked_of.argument (later c.n t) j d is) (subst (λ (k : ℕ). HaveValues c.w c.rows (argument_questions site k) args) e v))
+    (sent_later c P goes site asked_of false (suc t) (suc u) left (ap suc e) calls more)
 
-pub sent_from_mark : SentFromMark
-sent_from_mark w n rows site calls none mark h =
-    let c : Case = record { w = w; n = n; rows = rows; no_replies = none; mark = mark } in
-    let s : Split w rows site (n + 0) (length rows - n) calls = sent_split w rows site n false 0 (length rows) calls h in
-    let e : n + 0 ≡ n = omega arith in
-    let at : SentFrom w rows site s.again n (length rows - n) s.rest = subst (λ (k : ℕ). SentFrom w rows site s.again k (length rows - n) s.rest) e s.sent in
-    let there : SentFrom (after_mark c) (drop n rows) site false 0 (length rows - n) s.rest = sent_later c site false 0 n (length rows - n) refl s.rest (sent_at_mark c site s.again false (length rows - n) s.rest at) in (
+-- what is sent from the mark on
+pub sent_from : (c : Case) (P : Question → Type 0) → Goes c P → (site : Site) → Site_asked P site → (calls : List (Bool × List ℕ)) → Sent c.w c.rows site calls →
+    (before later : List (Bool × List ℕ)) × (calls ≡ before ++ later) × Sent (after_mark c) (drop c.n c.rows) site later
+sent_from c P goes site asked_of calls h =
+    let s : Split c.w c.rows site (c.n + 0) (length c.rows - c.n) calls = sent_split c.w c.rows site c.n false 0 (length c.rows) calls h in
+    let e : c.n + 0 ≡ c.n = omega arith in
+    let at : SentFrom c.w c.rows site s.again c.n (length c.rows - c.n) s.rest = subst (λ (k : ℕ). SentFrom c.w c.rows site s.again k (length c.rows - c.n) s.rest) e s.sent in
+    let there : SentFrom (after_mark c) (drop c.n c.rows) site false 0 (length c.rows - c.n) s.rest =
+    sent_later c P goes site asked_of false 0 c.n (length c.rows - c.n) refl s.rest (sent_at_mark c site s.again false (length c.rows - c.n) s.rest at) in (
       s.first,
       s.rest,
       s.joined,
-      subst (λ (v : Setting). Sent v (drop n rows) site s.rest) (setting_is n w)
-          (subst (λ (k : ℕ). SentFrom (after_mark c) (drop n rows) site false 0 k s.rest) (sym (length-drop n rows)) there),
+      subst (λ (k : ℕ). SentFrom (after_mark c) (drop c.n c.rows) site false 0 k s.rest) (sym (length-drop c.n c.rows)) there,
     )
+
+pub sent_from_mark : SentFromMark
+sent_from_mark w n rows site calls none mark h =
+    let s : (before later : List (Bool × List ℕ)) × (calls ≡ before ++ later) × Sent (after_mark (silent w n rows mark)) (drop n rows) site later =
+    sent_from (silent w n rows mark) Any_question (silent_goes w n rows mark none) site (record { restart = λ t. tt; presence = λ t. tt; argument = λ t j e is. tt }) calls h in
+    (s.0, s.1, s.2, subst (λ (v : Setting). Sent v (drop n rows) site s.1) (setting_is n w) s.3)
