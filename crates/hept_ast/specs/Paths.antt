@@ -1,9 +1,10 @@
 -- What stands in the text of a node, and that a path names one call.
 use Rattle.std.specs.Prelude.{◌≡◌, ℕ, true, List, [], ◌∷◌, Some, map}
 use Rattle.hept_ast.specs.Texts.{Name, is_in}
-use Rattle.hept_ast.specs.Scopes.{Clock, Text, Scope, Top, Called, In_branch, In_body, In_state, Under, Written, text_of}
+use Rattle.hept_ast.specs.Scopes.{Clock, Text, Scope, Top, Called, In_branch, In_body, In_state, Under, Written, Lowered, text_of}
 use Rattle.hept_ast.specs.Meaning.{Setting, clock_seen, call_of}
 use Rattle.hept_ast.specs.Sites.{Piece, path_of, Expression, Statement, Body, Site, Sites, expressions, form_pieces, clock_of_left, pieces}
+use Rattle.hept_ast.specs.Settings.{Marks, Replies, of_core}
 use Rattle.hept_ast.specs.OwnReplies.{PathsTell}
 use Rattle.hept_ast.specs.declared.name.Place.{Place}
 use Rattle.hept_ast.specs.declared.tree.Expr.{Expr}
@@ -15,6 +16,8 @@ use Rattle.hept_ast.specs.declared.tree.Block.{Block}
 use Rattle.hept_ast.specs.declared.tree.Branch.{Branch}
 use Rattle.hept_ast.specs.declared.tree.State.{State}
 use Rattle.hept_ast.specs.declared.tree.Node.{Node}
+use Rattle.hept_ast.specs.declared.tree.Core.{Core}
+use Rattle.hept_ast.specs.declared.tree.CoreNode.{CoreNode}
 use Rattle.hept_ast.specs.declared.tree.Equation.{Equation, out-Equation}
 use Rattle.hept_ast.specs.declared.tree.Equation.TheOpen.{Equation-F}
 
@@ -94,3 +97,7 @@ PlacesTellCalls = (w : Setting) (text : Text) → LeftsAgree w text → PlacesDi
 -- and no two sites have one path
 abbrev pub PathsDiffer : Type 0
 PathsDiffer = (w : Setting) (text : Text) (sites : List Site) → LeftsAgree w text → PlacesDiffer w text → Sites w text sites → AllDiffer (map path_of sites)
+
+-- a core's equations have clocks of their own
+abbrev pub CoreLeftsAgree : Type 0
+CoreLeftsAgree = (core : Core) (marked : Marks) (replies : Replies) (node : CoreNode) → LeftsAgree (of_core core marked replies) (Lowered node)

@@ -1,6 +1,8 @@
+use Rattle.hept_ast.proofs.CoreFrames.{core_lefts_agree}
 use Rattle.hept_ast.proofs.CallPlacesOf.{places_tell_calls}
 use Rattle.hept_ast.proofs.PathsApart.{paths_differ}
 use Rattle.hept_ast.proofs.PathsOf.{paths_tell_calls}
+use Rattle.hept_ast.proofs.SizeOfTexts.{one_expanded_size}
 use Rattle.hept_ast.proofs.laws.path_laws.Goals as goal
 
 pub returns-clause-paths : goal.returns-clause-paths
@@ -11,3 +13,9 @@ returns-clause-places c = places_tell_calls
 
 pub returns-clause-paths_differ : goal.returns-clause-paths_differ
 returns-clause-paths_differ c = paths_differ
+
+pub returns-clause-one_size : goal.returns-clause-one_size
+returns-clause-one_size c = one_expanded_size
+
+pub returns-clause-core_lefts : goal.returns-clause-core_lefts
+returns-clause-core_lefts c = core_lefts_agree
