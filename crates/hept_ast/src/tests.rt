@@ -1,6 +1,6 @@
 use crate::{
-    Block, Const, Decl, Expr, Form, Init, Memory, Name, Node, Place, Plain, Program, Ty, erase,
-    erase_expr, meaning_laws, static_laws, transfer_laws,
+    BinaryOp, Block, Const, Decl, Expr, Form, Init, Memory, Name, Node, Place, Plain, Program, Ty,
+    Typed, UnaryOp, binary, erase, erase_expr, meaning_laws, static_laws, transfer_laws, unary,
 };
 use sqlite_items::{Boxed, Items};
 use std::alloc::{AllocError, Global};
@@ -96,4 +96,48 @@ fn laws_are_there() {
     meaning_laws();
     static_laws();
     transfer_laws();
+}
+
+#[test]
+fn operators_wrap_and_divisions_truncate(rt: HostRuntime) {
+    let low = 0x8000_0000;
+    let minus_one = 0xffff_ffff;
+    let minus_seven = 0xffff_fff9;
+    let negated = unary(UnaryOp::Minus, low);
+    let wrapped = binary(BinaryOp::Add, 0x7fff_ffff, 1);
+    let quotient = binary(BinaryOp::Div, minus_seven, 2);
+    let rest = binary(BinaryOp::Rem, minus_seven, 2);
+    let lowest = binary(BinaryOp::Div, low, minus_one);
+    let nothing = binary(BinaryOp::Rem, low, minus_one);
+    assert_eq!(rt; negated, low);
+    assert_eq!(rt; wrapped, low);
+    assert_eq!(rt; quotient, 0xffff_fffd);
+    assert_eq!(rt; rest, minus_one);
+    assert_eq!(rt; lowest, low);
+    assert_eq!(rt; nothing, 0);
+}
+
+#[test]
+fn truth_values_are_compared_and_joined(rt: HostRuntime) {
+    let denied = unary(UnaryOp::Not, 1);
+    let either = binary(BinaryOp::Or, 0, 1);
+    let both = binary(BinaryOp::And, 0, 1);
+    let below = binary(BinaryOp::Lt, 0xffff_ffff, 1);
+    let above = binary(BinaryOp::Ge, 0xffff_ffff, 1);
+    assert_eq!(rt; denied, 0);
+    assert_eq!(rt; either, 1);
+    assert_eq!(rt; both, 0);
+    assert_eq!(rt; below, 1);
+    assert_eq!(rt; above, 0);
+}
+
+#[test]
+fn a_program_without_text_is_typed(rt: HostRuntime) -> Result<(), Fail> {
+    let alloc = rt.alloc();
+    let types = Items::new(alloc);
+    let nodes = Items::new(alloc);
+    let typed = Typed::of(Program { types, nodes });
+    let nodes = typed.program().nodes.as_slice().len();
+    assert_eq!(rt; nodes, 0);
+    Ok(())
 }
