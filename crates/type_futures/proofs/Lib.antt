@@ -1,0 +1,6 @@
+pub mod Noting
+pub mod Seconds
+pub mod Overs
+pub mod Chosen
+pub mod Again
+pub mod CaseLists

@@ -1,0 +1,7 @@
+pub mod Noted
+pub mod Labels
+pub mod Pieces
+pub mod Gathered
+pub mod Chosen
+pub mod Typing
+pub mod Defined

@@ -1,0 +1,165 @@
+//! What the equations of a block define.
+ghost use Rattle.std.specs.Prelude.{◌≡◌, ◌++◌, IfOk, OnOk, [], map};
+ghost use Rattle.std.specs.List.{flat_map, list_any};
+ghost use Rattle.std.specs.Option.{option_copied};
+ghost use Rattle.hept_ast.specs.Faults.{second_definitions};
+ghost use Rattle.hept_ast.specs.Limits.{earlier_of, earliest};
+ghost use Rattle.hept_ast.specs.Parts.{declaration, equation_case, place_of, sets_of};
+ghost use Rattle.hept_ast.specs.Texts.{is_in};
+ghost use Rattle.type_futures.specs.Defined.{again_fault, block_faults, last_in, left_faults_by, undefined_fault};
+
+use crate::found::{Found, Kind};
+use crate::names::is_same;
+use crate::sets::{is_declared_in, is_listed, push_sets};
+use crate::typing::note_decls;
+use hept_ast::{Decl, Equation, Memory, Name, Place, TypeDec};
+use std::alloc::Global;
+
+fn note_if_undefined(found: &mut Found, decl: &Decl, sets: &[&Name])
+    ensures { found.new ≡ earlier_of found.old (earliest (undefined_fault (map (λ r. r.now) sets.now) decl.now)) }
+{
+    let defined = is_listed(&decl.name, sets);
+    found.note_if(decl.place, Kind::NotDefined, !defined);
+}
+
+#[tactic(auto, using(hept_ast::proofs::Earliest::earliest_of))]
+fn note_undefined(found: &mut Found, decls: &[Decl], sets: &[&Name])
+    ensures { found.new ≡ earlier_of found.old (earliest (flat_map (undefined_fault (map (λ r. r.now) sets.now)) decls.now)) }
+{
+    for decl in decls {
+        note_if_undefined(found, decl, sets);
+    }
+}
+
+#[tactic(auto, using(crate::proofs::Again::places_of))]
+fn place_of(equation: &Equation) -> Place
+    ensures { result.0 ≡ place_of equation.now }
+{
+    match equation {
+        Equation::Define { place, .. } => *place,
+        Equation::Switch { place, .. } => *place,
+        Equation::Reset { place, .. } => *place,
+        Equation::Automaton { place, .. } => *place,
+    }
+}
+
+fn is_one_listed(names: &[&Name], others: &[&Name]) -> bool
+    ensures { result ≡ list_any (λ r. is_in r.now (map (λ r. r.now) others.now)) names.now }
+{
+    names.iter().any(|name| is_listed(name, others))
+}
+
+fn is_any_listed(names: &[&Name], others: &[&Name]) -> bool
+    ensures { result ≡ list_any (λ x. is_in x (map (λ r. r.now) others.now)) (map (λ r. r.now) names.now) }
+{
+    is_one_listed(names, others)
+}
+
+/// Notes an equation that defines what one before it does, and appends what it defines to those.
+fn note_again<'a>(
+    alloc: Global,
+    found: &mut Found,
+    earlier: &mut Vec<&'a Name>,
+    equation: &'a Equation,
+) -> Result<(), Memory>
+    ensures noted { OnOk result (found.new ≡ earlier_of found.old (earliest (again_fault (map (λ r. r.now) earlier.old.items) (equation_case equation.now)))) }
+    ensures earlier { OnOk result (map (λ r. r.now) earlier.new.items ≡ map (λ r. r.now) earlier.old.items ++ sets_of equation.now) }
+{
+    let mut own = Vec::new(alloc);
+    push_sets(alloc, &mut own, equation)?;
+    let again = is_any_listed(own.as_slice(), earlier.as_slice());
+    found.note_if(place_of(equation), Kind::Duplicate, again);
+    push_sets(alloc, earlier, equation)
+}
+
+/// Notes each equation of a block that defines what an earlier one does.
+#[tactic(auto, using(hept_ast::proofs::Earliest::earliest_of))]
+fn note_second_definitions(
+    alloc: Global,
+    found: &mut Found,
+    body: &[Equation],
+) -> Result<(), Memory>
+    ensures { OnOk result (found.new ≡ earlier_of found.old (earliest (second_definitions [] (map equation_case body.now)))) }
+{
+    let mut earlier = Vec::new(alloc);
+    for equation in body {
+        note_again(alloc, found, &mut earlier, equation)?;
+    }
+    Ok(())
+}
+
+fn all_sets<'a>(alloc: Global, body: &'a [Equation]) -> Result<Vec<&'a Name>, Memory>
+    ensures { IfOk result (λ v. map (λ r. r.now) v.items ≡ flat_map sets_of body.now) }
+{
+    let mut sets = Vec::new(alloc);
+    for equation in body {
+        push_sets(alloc, &mut sets, equation)?;
+    }
+    Ok(sets)
+}
+
+/// Notes what is wrong with what a block declares, and with what its equations define of it.
+#[tactic(auto, using(hept_ast::proofs::Earliest::earliest_of))]
+pub(crate) fn note_block(
+    alloc: Global,
+    found: &mut Found,
+    types: &[TypeDec],
+    decls: &[Decl],
+    body: &[Equation],
+) -> Result<(), Memory>
+    ensures { OnOk result (found.new ≡ earlier_of found.old (earliest (block_faults types.now decls.now body.now))) }
+{
+    note_decls(found, types, decls);
+    let sets = all_sets(alloc, body)?;
+    note_undefined(found, decls, sets.as_slice());
+    note_second_definitions(alloc, found, body)?;
+    Ok(())
+}
+
+/// The declaration of a name, among those that are seen.
+pub(crate) fn declaration<'a>(seen: &[&'a Decl], name: &Name) -> Option<&'a Decl>
+    ensures { option_copied result ≡ declaration (map (λ r. r.now) seen.now) name.now }
+{
+    for decl in seen {
+        if is_same(name, &decl.name) {
+            return Some(*decl);
+        }
+    }
+    None
+}
+
+/// Whether a name is that of a variable with `last`.
+pub(crate) fn has_last(seen: &[&Decl], name: &Name) -> bool
+    ensures { result ≡ last_in (map (λ r. r.now) seen.now) name.now }
+{
+    match declaration(seen, name) {
+        Some(decl) => decl.init.is_some(),
+        None => false,
+    }
+}
+
+#[tactic(auto, using(hept_ast::proofs::Earliest::earliest_of))]
+fn note_left(found: &mut Found, inputs: &[Decl], seen: &[&Decl], place: Place, name: &Name)
+    ensures { found.new ≡ earlier_of found.old (earliest (left_faults_by inputs.now (map (λ r. r.now) seen.now) place.0 name.now)) }
+{
+    let known = declaration(seen, name).is_some();
+    found.note_if(place, Kind::UnknownName, !known);
+    let input = is_declared_in(name, inputs);
+    found.note_if(place, Kind::Duplicate, input);
+}
+
+/// Notes each name on a left side that is not seen or is an input.
+#[tactic(auto, using(hept_ast::proofs::Earliest::earliest_of))]
+pub(crate) fn note_left_side(
+    found: &mut Found,
+    inputs: &[Decl],
+    seen: &[&Decl],
+    place: Place,
+    left: &[Name],
+)
+    ensures { found.new ≡ earlier_of found.old (earliest (flat_map (left_faults_by inputs.now (map (λ r. r.now) seen.now) place.0) left.now)) }
+{
+    for name in left {
+        note_left(found, inputs, seen, place, name);
+    }
+}

@@ -1,0 +1,21 @@
+//! The static rules of names and types.
+#![tactic(auto)]
+
+mod cases;
+mod choice;
+mod definitions;
+mod expressions;
+mod found;
+mod gathered;
+mod labels;
+mod limits;
+mod names;
+mod pieces;
+mod queues;
+mod sets;
+#[cfg(test)]
+mod tests;
+mod typing;
+mod variables;
+
+pub use choice::{TopFault, choose};
