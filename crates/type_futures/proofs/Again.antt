@@ -6,7 +6,7 @@ use Rattle.std.proofs.lemmas.List.Folds.{list_any-append}
 use Rattle.hept_ast.specs.Texts.{Name, same, is_in}
 use Rattle.hept_ast.specs.Faults.{Fault, Duplicate, fault, second_definitions}
 use Rattle.hept_ast.specs.Limits.{earlier_of, earliest}
-use Rattle.hept_ast.specs.Parts.{Case, place_of, equation_case, sets_of}
+use Rattle.hept_ast.specs.Parts.{place_of, equation_case, sets_of}
 use Rattle.hept_ast.specs.declared.name.Place.{Place}
 use Rattle.hept_ast.specs.declared.tree.Block.{Block}
 use Rattle.hept_ast.specs.declared.tree.Branch.{Branch}

@@ -1,5 +1,5 @@
 -- Branches and states as cases.
-use Rattle.std.proofs.Common.{◌≡◌, ℕ, List, [], ◌∷◌, ◌++◌, refl, sym, ◌∙◌, ap, map}
+use Rattle.std.proofs.Common.{◌≡◌, List, [], ◌∷◌, refl, sym, ◌∙◌, ap, map}
 use Rattle.std.specs.List.{flat_map}
 use Rattle.hept_ast.specs.Texts.{Name}
 use Rattle.hept_ast.specs.Faults.{labels}

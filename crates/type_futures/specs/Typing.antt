@@ -1,5 +1,5 @@
 -- Types as code holds them, and the faults of a declaration by the types alone.
-use Rattle.std.specs.Prelude.{ℕ, Bool, true, false, not, if◌then◌else◌, List, [], ◌++◌, Option, None, Some, is_some}
+use Rattle.std.specs.Prelude.{Bool, true, false, not, if◌then◌else◌, List, [], ◌++◌, Option, None, Some, is_some}
 use Rattle.hept_ast.specs.Types.{Plain_type, same_type, type_is_known, type_of_const}
 use Rattle.hept_ast.specs.Faults.{Fault, UnknownName, Mismatch, fault}
 use Rattle.hept_ast.specs.declared.tree.TypeDec.{TypeDec}

@@ -1,11 +1,16 @@
+use crate::choice::{last, named};
+use crate::definitions::note_block;
 use crate::found::{Fault, Found, Kind};
 use crate::gathered::gather;
 use crate::labels::{push_all_constructors, push_nodes, push_states, push_types};
-use crate::limits::{note_all_long, note_node_limits, note_over, note_type_limits};
-use crate::names::{Label, is_among, note_seconds};
+use crate::limits::{note_all_long, note_limits, note_node_limits, note_over, note_type_limits};
+use crate::names::{Label, is_among, note_second_declarations, note_seconds};
 use crate::queues::note_queues;
+use crate::typing::note_decl;
+use crate::{TopFault, choose};
 use hept_ast::{
-    Block, Decl, Equation, Expr, Form, Memory, Name, Node, Place, Plain, State, Ty, TypeDec,
+    Block, Const, Decl, Equation, Expr, Form, Init, Memory, Name, Node, NodeId, Place, Plain,
+    Program, State, Ty, TypeDec, Typed,
 };
 use sqlite_items::Items;
 use std::alloc::{AllocError, Global};
@@ -249,5 +254,118 @@ fn a_name_is_found_among_others(rt: HostRuntime) -> Result<(), Fail> {
     let y_is_there = is_among(&y, names.as_slice());
     assert!(rt; x_is_there);
     assert!(rt; !y_is_there);
+    Ok(())
+}
+
+fn is_unknown_at(found: &Found, place: u32) -> bool {
+    match found.first() {
+        Some(fault) => fault.place == Place(place) && matches!(fault.kind, Kind::UnknownName),
+        None => false,
+    }
+}
+
+fn is_undefined_at(found: &Found, place: u32) -> bool {
+    match found.first() {
+        Some(fault) => fault.place == Place(place) && matches!(fault.kind, Kind::NotDefined),
+        None => false,
+    }
+}
+
+fn is_first(chosen: Result<NodeId, TopFault>) -> bool {
+    match chosen {
+        Ok(id) => id == NodeId(0),
+        Err(_) => false,
+    }
+}
+
+fn is_none(chosen: Result<NodeId, TopFault>) -> bool {
+    match chosen {
+        Ok(_) => false,
+        Err(fault) => matches!(fault, TopFault::NoNode),
+    }
+}
+
+#[test]
+fn the_last_node_is_chosen(rt: HostRuntime) -> Result<(), Fail> {
+    let alloc = rt.alloc();
+    let mut nodes = Items::new(alloc);
+    nodes.push(node(alloc, 2)?)?;
+    let chosen = is_first(last(nodes.as_slice()));
+    assert!(rt; chosen);
+    Ok(())
+}
+
+#[test]
+fn a_node_is_chosen_by_its_name(rt: HostRuntime) -> Result<(), Fail> {
+    let alloc = rt.alloc();
+    let mut nodes = Items::new(alloc);
+    nodes.push(node(alloc, 2)?)?;
+    let chosen = is_first(named(nodes.as_slice(), b"main"));
+    let other = is_none(named(nodes.as_slice(), b"other"));
+    assert!(rt; chosen);
+    assert!(rt; other);
+    Ok(())
+}
+
+#[test]
+fn a_program_without_nodes_has_no_node(rt: HostRuntime) -> Result<(), Fail> {
+    let alloc = rt.alloc();
+    let types = Items::new(alloc);
+    let nodes = Items::new(alloc);
+    let typed = Typed::of(Program { types, nodes });
+    let last = is_none(choose(&typed, None));
+    let main = is_none(choose(&typed, Some("main")));
+    assert!(rt; last);
+    assert!(rt; main);
+    Ok(())
+}
+
+#[test]
+fn an_initial_constant_that_nobody_declared_is_noted(rt: HostRuntime) -> Result<(), Fail> {
+    let alloc = rt.alloc();
+    let types: Items<TypeDec> = Items::new(alloc);
+    let mut decl = integer(alloc, 20, b"y")?;
+    let value = Const::Constructor(name(alloc, b"Foo")?);
+    decl.init = Some(Init {
+        ready: false,
+        value,
+    });
+    let mut found = Found::new();
+    note_decl(&mut found, types.as_slice(), &decl);
+    let unknown = is_unknown_at(&found, 20);
+    assert!(rt; unknown);
+    Ok(())
+}
+
+#[test]
+fn a_variable_that_nothing_defines_is_noted(rt: HostRuntime) -> Result<(), Fail> {
+    let alloc = rt.alloc();
+    let types: Items<TypeDec> = Items::new(alloc);
+    let node = node(alloc, 2)?;
+    let mut found = Found::new();
+    let locals = node.block.locals.as_slice();
+    let body = node.block.body.as_slice();
+    let Ok(()) = note_block(alloc, &mut found, types.as_slice(), locals, body) else {
+        return Err(AllocError.into());
+    };
+    let undefined = is_undefined_at(&found, 30);
+    assert!(rt; undefined);
+    Ok(())
+}
+
+#[test]
+fn a_program_within_the_limits_declares_nothing_twice(rt: HostRuntime) -> Result<(), Fail> {
+    let alloc = rt.alloc();
+    let types = Items::new(alloc);
+    let mut nodes = Items::new(alloc);
+    nodes.push(node(alloc, 2)?)?;
+    let program = Program { types, nodes };
+    let mut found = Found::new();
+    let limits = note_limits(alloc, &mut found, &program).is_ok();
+    let seconds = note_second_declarations(alloc, &mut found, &program).is_ok();
+    let none = found.first().is_none();
+    assert!(rt; limits);
+    assert!(rt; seconds);
+    assert!(rt; none);
     Ok(())
 }
