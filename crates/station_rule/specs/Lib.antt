@@ -1,4 +1,5 @@
 pub mod Book
+pub mod Cells
 pub mod Core
 pub mod Counts
 pub mod Key

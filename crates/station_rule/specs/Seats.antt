@@ -1,5 +1,5 @@
 -- What a clause says of a station and its seats.
-use Rattle.std.specs.Prelude.{◌≡◌, ℕ, ◌+◌, ◌<◌, Option, None, List, [], ◌∷◌, length}
+use Rattle.std.specs.Prelude.{◌≡◌, ◌≢◌, ℕ, ◌+◌, ◌*◌, ◌<◌, Bool, Option, None, List, [], ◌∷◌, ◌++◌, map, length}
 use Rattle.atomic_table.specs.Table.{rest}
 use Rattle.atomic_table.specs.declared.shared.Seat.{Seat}
 use Rattle.station_rule.specs.Key.{Key}
@@ -7,7 +7,11 @@ use Rattle.station_rule.specs.declared.view.Entry.{Entry}
 use Rattle.station_rule.specs.declared.view.View.{View}
 use Rattle.station_rule.specs.declared.view.Role.TheVariants.{Offers, Serves}
 use Rattle.station_rule.specs.declared.station.Station.{Station}
-use Rattle.station_rule.specs.Book.{issued, slot_of, gen_of, cell_component, EachHandle, IsUnnamed, InputsLive}
+use Rattle.station_rule.specs.declared.view.Sent.{Sent}
+use Rattle.station_rule.specs.declared.cell.Cell.{Cell}
+use Rattle.station_rule.specs.declared.job.Slot.{Slot}
+use Rattle.station_rule.specs.Book.{calls, issued, sents, slot_of, gen_of, entry_of, IsUnnamed, IsLive}
+use Rattle.station_rule.specs.Cells.{EachHeld, input_of, words_of, reset_mark, value_in}
 use Rattle.station_rule.specs.Core.{site_at}
 use Rattle.station_rule.specs.Steps.{job_of, rest_jobs}
 
@@ -47,11 +51,21 @@ module _ {M N A : Type 0} where
   HasInstance s i = i < length s.layout.sites
 
 -- what the owner's next call must meet
-pub record MayOffer (k : Key) (v : View) (i : ℕ) (words : List ℕ) : Type 0 where
+pub record MayOffer (k : Key) (v : View) (i : ℕ) (input : List Cell) (s : Slot) : Type 0 where
   pub opened : v.closed ≡ 0
-  pub size : length words ≡ (site_at k i).width
-  pub slot : slot_of words < k.slots
-  pub next : gen_of words ≡ length (issued (slot_of words) v.book) + 1
-  pub unnamed : IsUnnamed v.book v.seen (slot_of words)
-  pub inputs : InputsLive v.book words
-  pub components : EachHandle words (λ j a b. cell_component a < k.components)
+  pub own : (site_at k i).parent ≡ None
+  pub size : (site_at k i).width ≡ 1 + 2 * length input
+  pub slot : s.slot < k.slots
+  pub next : s.generation ≡ length (issued s.slot v.book) + 1
+  pub unnamed : IsUnnamed v.book v.seen s.slot
+  pub handles : EachHeld input (λ h. (0 < h.generation) × IsLive v.book h.slot h.generation × (h.slot ≢ s.slot) × (h.component < k.components))
+
+-- the entry is that of this call: exactly these inputs and this slot, each future sent by its value in the book
+pub record IsCall (given : ℕ → List Sent → List ℕ) (book : List Entry) (i : ℕ) (reset : Bool) (input : List Cell) (s : Slot) (e : Entry) : Type 0 where
+  pub instance : e.instance ≡ i
+  pub inputs : input_of e ≡ input
+  pub slot : slot_of e.words ≡ s.slot
+  pub generation : gen_of e.words ≡ s.generation
+  pub sent : e.sent ≡ record { mark = reset_mark reset; values = map (value_in book) input }
+  pub outputs : e.outs ≡ given i (sents (calls i book) ++ e.sent ∷ [])
+  pub entry : e ≡ entry_of given book i (words_of (reset_mark reset) input s.slot s.generation)

@@ -12,7 +12,7 @@ use Rattle.station_rule.specs.declared.view.Work.{Work}
 use Rattle.station_rule.specs.declared.view.View.{View}
 use Rattle.station_rule.specs.declared.view.Role.{Role}
 use Rattle.station_rule.specs.declared.view.Role.TheVariants.{Offers, Serves, Rests}
-use Rattle.station_rule.specs.Book.{calls, sents, slot_of, gen_of, entry_of, handle_value, cell_slot, cell_component, EachHandle, IsSentAs}
+use Rattle.station_rule.specs.Book.{calls, sents, slot_of, gen_of, entry_of, handle_value, cell_slot, cell_component, EachHandle, IsSentAs, IsNarrow}
 use Rattle.station_rule.specs.Core.{Core, Shows, place, component_word, InRange}
 
 -- no call was seen done
@@ -145,7 +145,7 @@ module _ {M : Type 0} (stands : ℕ → M → List Sent → Type 0) (given : ℕ
   abbrev pub Took : ℕ → Site → Sat M → Sat M → Type 0
   Took i t m m' =
       (x : M) × (w : Work) × (m' ≡ (record m.0 { jobs = w ∷ m.0.jobs }, (i, Some x) ∷ m.1)) × (w.call.instance ≡ i) × (length w.before ≡ m.0.done) × (length w.call.words ≡ t.width)
-      × (w.read ≡ []) × (w.filled ≡ []) × IsSentAs w.call.words w.call.sent × (length w.before + 1 < 2 ^ 53) × stands i x (sents w.before) × (w.call.outs ≡ given i (sents w.before ++ w.call.sent ∷ []))
+      × (w.read ≡ []) × (w.filled ≡ []) × IsSentAs w.call.words w.call.sent × IsNarrow w.call.words × (length w.before + 1 < 2 ^ 53) × stands i x (sents w.before) × (w.call.outs ≡ given i (sents w.before ++ w.call.sent ∷ []))
       × (slot_of w.call.words < m.0.layout.slots) × (0 < gen_of w.call.words) × InRange m.0.layout w.call.words
 
   abbrev pub took : At M → Sat M → ℕ → Sat M → Type 0

@@ -2,6 +2,7 @@
 // An owner offers calls to queues, servers take them in order, and futures are read from words.
 #![tactic(auto)]
 
+mod cell;
 mod job;
 mod layout;
 mod made;
@@ -13,9 +14,10 @@ mod server;
 mod station;
 mod view;
 
+pub use cell::{Cell, Handle};
 pub use job::{Job, Slot};
 pub use layout::{Layout, Site};
 pub use meaning::Meaning;
-pub use seated::{Handle, Owner, Seated, Server};
+pub use seated::{Owner, Seated, Server};
 pub use station::Station;
 pub use view::{Entry, Finished, Look, Role, Sent, View, Work};

@@ -1,10 +1,15 @@
 // An owner and a server, as types of their own, and what both can do.
-ghost use Rattle.std.specs.Prelude.{◌≡◌, ◌≢◌, ℕ, ◌*◌, ◌+◌, ◌/◌, ◌%◌, ◌^◌, ◌<◌, [], ◌∷◌, ◌++◌, length, slice_index};
-ghost use Rattle.station_rule.specs.Book.{handle_value, cell_slot, cell_component, IsHeld};
+ghost use Rattle.std.specs.Prelude.{◌≡◌, ◌≢◌, ℕ, ◌*◌, ◌+◌, ◌/◌, ◌%◌, ◌^◌, ◌<◌, ◌≤◌, [], ◌∷◌, ◌++◌, length, slice_index, vec_capacity};
+ghost use mathlib.Core.Option.{some};
+ghost use lib.ListN.{get_elem?};
+ghost use Rattle.station_rule.specs.Cells.{input_of};
+ghost use Rattle.station_rule.specs.Book.{handle_value};
+ghost use Rattle.station_rule.specs.declared.cell.Cell.TheVariants.{Held};
 ghost use Rattle.station_rule.specs.Core.{component_word};
 ghost use Rattle.station_rule.specs.Steps.{saw, job_of, rest_jobs};
 ghost use Rattle.station_rule.specs.Seats.{StationSeat, IsSeatOf, IsSameSeat, IsOwner, IsServer, HasInstance, book};
 
+use crate::cell::{Cell, Handle};
 use crate::meaning::Meaning;
 use crate::station::Station;
 use crate::view::View;
@@ -21,20 +26,41 @@ pub struct Owner<M> {
 #[derive(Drop)]
 pub struct Server<M> {
     pub seat: Seat<Option<M>, View>,
+    pub(crate) cells: Vec<Cell>,
+    ghost roomy: { 64 ≤ vec_capacity cells },
 }
 
-/// A future: a component of the slot of a call, and the generation by which the call has the slot.
-#[derive(Clone, Copy)]
-pub struct Handle {
-    pub slot: u32,
-    pub component: u32,
-    pub generation: u32,
+impl<M> Server<M> {
+    /// The inputs of the call that was taken last.
+    pub fn input(&self) -> &[Cell]
+        ensures { result.now ≡ self.now.cells.items }
+    {
+        self.cells.as_slice()
+    }
+
+    /// Forgets the inputs.
+    pub fn clear_input(&mut self)
+        ensures { (self.new.seat ≡ self.old.seat) × (self.new.cells.items ≡ []) }
+    {
+        self.cells.clear();
+    }
+
+    /// Adds an input. There is room for as many as a node may have.
+    pub fn push_input(&mut self, cell: Cell)
+        requires { length self.old.cells.items < 64 }
+        ensures { (self.new.seat ≡ self.old.seat) × (self.new.cells.items ≡ self.old.cells.items ++ cell ∷ []) }
+    {
+        match self.cells.push(cell) {
+            Ok(()) => {}
+            Err(_) => unreachable!(),
+        }
+    }
 }
 
 /// What an owner and a server share: each may read the futures that it knows.
 pub trait Seated<M> {
     ghost use Rattle.std.specs.Prelude.{ℕ};
-    ghost use Rattle.station_rule.specs.declared.seated.Handle.{Handle};
+    ghost use Rattle.station_rule.specs.declared.cell.Handle.{Handle};
     ghost use Rattle.station_rule.specs.Seats.{StationSeat};
 
     ghost seat: { Self → StationSeat M };
@@ -79,7 +105,7 @@ impl<M> Seated<M> for Server<M> {
 
     ghost knows = { λ s h. IsServer s.seat × (s.seat.me.0.jobs ≡ job_of s.seat.me.0 ∷ rest_jobs s.seat.me.0.jobs) × ((job_of s.seat.me.0).call.instance < length s.seat.me.0.layout.sites) };
 
-    ghost means = { λ s h x. (j : ℕ) → 2 * j + 2 < length (job_of s.seat.me.0).call.words → IsHeld (slice_index (job_of s.seat.me.0).call.words (2 * j + 1)) → cell_slot (slice_index (job_of s.seat.me.0).call.words (2 * j + 1)) ≡ h.slot → cell_component (slice_index (job_of s.seat.me.0).call.words (2 * j + 1)) ≡ h.component → slice_index (job_of s.seat.me.0).call.words (2 * j + 2) ≡ h.generation → x ≡ slice_index (job_of s.seat.me.0).call.sent.values j };
+    ghost means = { λ s h x. (j : ℕ) → get_elem? (input_of (job_of s.seat.me.0).call) j ≡ some (Held h) → x ≡ slice_index (job_of s.seat.me.0).call.sent.values j };
 
     fn look<N: Meaning<M>, A: Allocator>(
         &mut self,

@@ -1,5 +1,5 @@
 // A server's steps.
-ghost use Rattle.std.specs.Prelude.{◌≡◌, ◌≢◌, ◌⊎◌, ℕ, ◌+◌, ◌*◌, ◌/◌, ◌%◌, ◌^◌, ◌<◌, ◌≤◌, [], ◌∷◌, ◌++◌, length, slice_index, Some, None, IsTrue, ◌↔◌, not, ◌==◌};
+ghost use Rattle.std.specs.Prelude.{◌≡◌, ◌≢◌, ◌⊎◌, ℕ, ◌+◌, ◌*◌, ◌/◌, ◌%◌, ◌^◌, ◌<◌, ◌≤◌, [], ◌∷◌, ◌++◌, length, slice_index, Some, None, IsTrue, ◌↔◌, not, ◌==◌, IfOk};
 ghost use mathlib.Core.Option.{some, none};
 ghost use lib.ListN.{get_elem?};
 ghost use Rattle.atomic_table.specs.Table.{rest};
@@ -16,18 +16,18 @@ use crate::seated::{Owner, Server};
 use crate::station::Station;
 use crate::view::View;
 use atomic_table::Seat;
-use std::alloc::Allocator;
+use std::alloc::{AllocError, Allocator, Global};
 
 impl<M, N: Meaning<M>, A: Allocator> Station<M, N, A> {
-    /// Step: makes a server, which has no job.
-    pub fn hire(&self, owner: &mut Owner<M>) -> Server<M>
+    /// Step: makes a server, which has no job. The room for the inputs of its calls is made here.
+    pub fn hire(&self, alloc: Global, owner: &mut Owner<M>) -> Result<Server<M>, AllocError>
         requires { IsSeatOf self.now owner.old.seat × IsOwner owner.old.seat }
         ensures owner { IsSameSeat owner.old.seat owner.new.seat × (owner.new.seat.me ≡ owner.old.seat.me) }
-        ensures server { IsSeatOf self.now result.seat × (result.seat.me ≡ (server_view owner.old.seat.me.0, [])) }
+        ensures server { IfOk result (λ s. IsSeatOf self.now s.seat × (s.seat.me ≡ (server_view owner.old.seat.me.0, []))) }
     {
-        Server {
-            seat: self.table.shared.split_seat::<Hire>(&mut owner.seat),
-        }
+        let cells = Vec::with_capacity(alloc, 64)?;
+        let seat = self.table.shared.split_seat::<Hire>(&mut owner.seat);
+        Ok(Server { seat, cells })
     }
 
     /// Step: gives a server's seat up. The owner has then what the server finished.
@@ -36,9 +36,10 @@ impl<M, N: Meaning<M>, A: Allocator> Station<M, N, A> {
         requires server { IsSeatOf self.now server.seat × (server.seat.me.0.jobs ≡ []) × (server.seat.me.1 ≡ []) }
         ensures { IsSameSeat owner.old.seat owner.new.seat × (owner.new.seat.me ≡ (taken_in owner.old.seat.me.0 server.seat.me.0, owner.old.seat.me.1)) }
     {
+        let Server { seat, cells: _ } = server;
         self.table
             .shared
-            .join_seat::<Dismiss>(&mut owner.seat, server.seat);
+            .join_seat::<Dismiss>(&mut owner.seat, seat);
     }
 
     /// Step: whether the close mark that was loaded is 1.
