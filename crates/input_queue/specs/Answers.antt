@@ -3,6 +3,7 @@ use Rattle.std.specs.Prelude.{◌≡◌, ℕ, ◌+◌, ◌/◌, ◌≤◌, [], �
 use Rattle.station_rule.specs.Key.{Key}
 use Rattle.station_rule.specs.declared.view.Look.{Look}
 use Rattle.station_rule.specs.declared.job.Job.{Job}
+use Rattle.station_rule.specs.declared.cell.Handle.{Handle}
 use Rattle.station_rule.specs.Book.{calls}
 use Rattle.station_rule.specs.Core.{site_at}
 use Rattle.station_rule.specs.Seats.{StationSeat, IsSameSeat, book}
@@ -11,8 +12,8 @@ use Rattle.input_queue.specs.declared.take.Take.TheVariants.{Taken, Empty, Busy}
 use Rattle.input_queue.specs.declared.offer.Offer.{Offer}
 use Rattle.input_queue.specs.declared.offer.Offer.TheVariants.{Offered, Full}
 
-abbrev pub OfferIs : Offer → Type 0 → Type 0 → Type 0
-OfferIs Offered p q = p
+abbrev pub OfferIs : Offer → (Handle → Type 0) → Type 0 → Type 0
+OfferIs (Offered h) p q = p h
 OfferIs Full p q = q
 
 abbrev pub TakeIs : {M : Type 0} → Take M → (Job M → Type 0) → Type 0 → Type 0 → Type 0
