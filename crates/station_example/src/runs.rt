@@ -1,11 +1,12 @@
 // An owner and workers at a queue of one place.
 ghost use Rattle.std.specs.Prelude.{◌≡◌, ◌^◌, ◌<◌, ◌≤◌, [], length};
-ghost use Rattle.station_rule.specs.Core.{site_at};
-ghost use Rattle.station_rule.specs.Seats.{IsSeatOf, IsSameSeat, IsOwner, IsServer, IsIdle, HasInstance, book};
+ghost use Rattle.station_example.specs.Fresh.{TakesOne};
+ghost use Rattle.station_rule.specs.Seats.{IsSeatOf, IsSameSeat, IsOwner, IsServer, IsIdle, book};
 
 use crate::owner::{offer_once, offer_plain};
 use crate::worker::{SumOwner, SumServer, Sums, complete, do_one, work};
 use input_queue::{Take, room, try_take};
+use station_rule::Cell;
 use std::sync::Wait;
 use std::thread;
 use std::thread::Threads;
@@ -21,24 +22,24 @@ pub fn one_place<R: Wait>(
     requires owner { IsSeatOf station.now owner.old.seat × IsOwner owner.old.seat × (owner.old.seat.me.0.entry ≡ []) × (owner.old.seat.me.0.closed ≡ 0) × (book owner.old.seat ≡ []) }
     requires first { IsSeatOf station.now first.old.seat × IsServer first.old.seat × IsIdle first.old.seat }
     requires second { IsSeatOf station.now second.old.seat × IsServer second.old.seat × IsIdle second.old.seat }
-    requires instance { HasInstance station.now 0 × ((site_at station.now.layout 0).width ≡ 3) × (0 < station.now.layout.components) × (1 < station.now.layout.slots) }
+    requires instance { TakesOne station.now.layout 0 × (0 < station.now.layout.components) × (1 < station.now.layout.slots) }
 {
     let empty_queue = room(station, owner, 0);
-    let offered = offer_once(station, owner, 0);
+    if !offer_once(station, owner, 0, &[Cell::Value(5)], 0) {
+        return false;
+    }
     let full_queue = !room(station, owner, 0);
-    let refused = !offer_once(station, owner, 1);
-    let mut input = [0u64; 3];
-    let job = match try_take(station, first, 0, &mut input) {
+    let refused = !offer_once(station, owner, 0, &[Cell::Value(6)], 1);
+    let job = match try_take(station, first, 0) {
         Take::Taken(job) => job,
         Take::Empty => return false,
         Take::Busy => return false,
     };
-    let first_call = job.number() == 1;
+    let first_call = job.number() == 1 && !job.reset();
     let busy = is_busy(rt, station, second);
-    complete(rt, station, first, job, &input);
+    complete(rt, station, first, job);
     let none_waits = !do_one(rt, station, second, 0);
     empty_queue
-        && offered
         && full_queue
         && refused
         && first_call
@@ -49,13 +50,12 @@ pub fn one_place<R: Wait>(
 
 fn is_busy<R: Wait>(rt: &R, station: &Sums, server: &mut SumServer) -> bool
     requires server { IsSeatOf station.now server.old.seat × IsServer server.old.seat × IsIdle server.old.seat }
-    requires instance { HasInstance station.now 0 × ((site_at station.now.layout 0).width ≡ 3) × (0 < station.now.layout.components) }
+    requires instance { TakesOne station.now.layout 0 × (0 < station.now.layout.components) }
     ensures { IsSameSeat server.old.seat server.new.seat × IsSeatOf station.now server.new.seat × IsServer server.new.seat × IsIdle server.new.seat }
 {
-    let mut input = [0u64; 3];
-    match try_take(station, server, 0, &mut input) {
+    match try_take(station, server, 0) {
         Take::Taken(job) => {
-            complete(rt, station, server, job, &input);
+            complete(rt, station, server, job);
             false
         }
         Take::Empty => false,
@@ -63,10 +63,10 @@ fn is_busy<R: Wait>(rt: &R, station: &Sums, server: &mut SumServer) -> bool
     }
 }
 
-fn offer_and_close(station: &Sums, owner: &mut SumOwner, count: u64) -> u64
+fn offer_and_close(station: &Sums, owner: &mut SumOwner, count: u32) -> u32
     requires owner { IsSeatOf station.now owner.old.seat × IsOwner owner.old.seat × (owner.old.seat.me.0.entry ≡ []) × (owner.old.seat.me.0.closed ≡ 0) × (book owner.old.seat ≡ []) }
-    requires instance { HasInstance station.now 0 × ((site_at station.now.layout 0).width ≡ 3) }
-    requires slots { (count ≤ station.now.layout.slots) × (count < 2 ^ 19) }
+    requires instance { TakesOne station.now.layout 0 }
+    requires slots { count ≤ station.now.layout.slots }
     ensures { IsSameSeat owner.old.seat owner.new.seat × IsSeatOf station.now owner.new.seat × IsOwner owner.new.seat }
 {
     let offered = offer_plain(station, owner, count);
@@ -80,22 +80,22 @@ pub fn run<R: Threads + Wait + Sync>(
     station: &Sums,
     owner: SumOwner,
     server: SumServer,
-    count: u64,
-) -> (u64, u64)
+    count: u32,
+) -> (u32, u64)
     requires owner { IsSeatOf station.now owner.seat × IsOwner owner.seat × (owner.seat.me.0.entry ≡ []) × (owner.seat.me.0.closed ≡ 0) × (book owner.seat ≡ []) }
     requires server { IsSeatOf station.now server.seat × IsServer server.seat × IsIdle server.seat }
-    requires instance { HasInstance station.now 0 × ((site_at station.now.layout 0).width ≡ 3) × (0 < station.now.layout.components) }
-    requires slots { (count ≤ station.now.layout.slots) × (count < 2 ^ 19) }
+    requires instance { TakesOne station.now.layout 0 × (0 < station.now.layout.components) }
+    requires slots { count ≤ station.now.layout.slots }
 {
     let mut owner = owner;
     let mut server = server;
     thread::join(
         rt,
         move ||
-            requires { IsSeatOf station.now owner.seat × IsOwner owner.seat × (owner.seat.me.0.entry ≡ []) × (owner.seat.me.0.closed ≡ 0) × (book owner.seat ≡ []) × HasInstance station.now 0 × ((site_at station.now.layout 0).width ≡ 3) × (count ≤ station.now.layout.slots) × (count < 2 ^ 19) }
+            requires { IsSeatOf station.now owner.seat × IsOwner owner.seat × (owner.seat.me.0.entry ≡ []) × (owner.seat.me.0.closed ≡ 0) × (book owner.seat ≡ []) × TakesOne station.now.layout 0 × (count ≤ station.now.layout.slots) }
         { offer_and_close(station, &mut owner, count) },
         move ||
-            requires { IsSeatOf station.now server.seat × IsServer server.seat × IsIdle server.seat × HasInstance station.now 0 × ((site_at station.now.layout 0).width ≡ 3) × (0 < station.now.layout.components) }
+            requires { IsSeatOf station.now server.seat × IsServer server.seat × IsIdle server.seat × TakesOne station.now.layout 0 × (0 < station.now.layout.components) }
         { work(rt, station, &mut server) },
     )
 }

@@ -1,6 +1,6 @@
 // A scope that starts a standing worker in a thread of its own.
 ghost use Rattle.std.specs.Prelude.{◌≡◌, ◌*◌, ◌^◌, ◌<◌, ◌≤◌, [], length};
-ghost use Rattle.station_rule.specs.Core.{site_at};
+ghost use Rattle.station_example.specs.Fresh.{TakesOne};
 ghost use Rattle.station_rule.specs.Seats.{IsSeatOf, IsOwner, IsServer, IsIdle, book};
 
 use crate::owner::offer_pairs;
@@ -27,19 +27,19 @@ pub fn with_worker<R: Threads + Wait + Sync>(
     station: &Sums,
     owner: SumOwner,
     server: SumServer,
-    count: u64,
-) -> (SumOwner, u64)
+    count: u32,
+) -> (SumOwner, u32)
     requires owner { IsSeatOf station.now owner.seat × IsOwner owner.seat × (owner.seat.me.0.entry ≡ []) × (owner.seat.me.0.closed ≡ 0) × (book owner.seat ≡ []) }
     requires server { IsSeatOf station.now server.seat × IsServer server.seat × IsIdle server.seat }
-    requires instances { (1 < length station.now.layout.sites) × ((site_at station.now.layout 0).width ≡ 3) × ((site_at station.now.layout 1).width ≡ 3) × (0 < station.now.layout.components) }
-    requires slots { (2 * count ≤ station.now.layout.slots) × (count < 2 ^ 19) }
+    requires instances { TakesOne station.now.layout 0 × TakesOne station.now.layout 1 × (0 < station.now.layout.components) }
+    requires slots { (2 * count ≤ station.now.layout.slots) × (2 * count < 2 ^ 32) }
     ensures { (result.0.seat.table_id ≡ owner.seat.table_id) × (result.0.seat.me.0.layout ≡ owner.seat.me.0.layout) × IsOwner result.0.seat × (result.0.seat.me.0.closed ≡ 1) }
 {
     thread::scope(
         thread::scope_env(),
         rt,
-        move |scope| -> (SumOwner, u64)
-            requires { IsSeatOf station.now owner.seat × IsOwner owner.seat × (owner.seat.me.0.entry ≡ []) × (owner.seat.me.0.closed ≡ 0) × (book owner.seat ≡ []) × IsSeatOf station.now server.seat × IsServer server.seat × IsIdle server.seat × (1 < length station.now.layout.sites) × ((site_at station.now.layout 0).width ≡ 3) × ((site_at station.now.layout 1).width ≡ 3) × (0 < station.now.layout.components) × (2 * count ≤ station.now.layout.slots) × (count < 2 ^ 19) }
+        move |scope| -> (SumOwner, u32)
+            requires { IsSeatOf station.now owner.seat × IsOwner owner.seat × (owner.seat.me.0.entry ≡ []) × (owner.seat.me.0.closed ≡ 0) × (book owner.seat ≡ []) × IsSeatOf station.now server.seat × IsServer server.seat × IsIdle server.seat × TakesOne station.now.layout 0 × TakesOne station.now.layout 1 × (0 < station.now.layout.components) × (2 * count ≤ station.now.layout.slots) × (2 * count < 2 ^ 32) }
             ensures { (result.0.seat.table_id ≡ owner.seat.table_id) × (result.0.seat.me.0.layout ≡ owner.seat.me.0.layout) × IsOwner result.0.seat × (result.0.seat.me.0.closed ≡ 1) }
         {
             let mut owner = owner;
@@ -47,7 +47,7 @@ pub fn with_worker<R: Threads + Wait + Sync>(
             let worker = scope.spawn_with(
                 promise,
                 move || -> SumServer
-                    requires { IsSeatOf station.now server.seat × IsServer server.seat × IsIdle server.seat × (1 < length station.now.layout.sites) × ((site_at station.now.layout 0).width ≡ 3) × ((site_at station.now.layout 1).width ≡ 3) × (0 < station.now.layout.components) }
+                    requires { IsSeatOf station.now server.seat × IsServer server.seat × IsIdle server.seat × TakesOne station.now.layout 0 × TakesOne station.now.layout 1 × (0 < station.now.layout.components) }
                     ensures { (result.seat.table_id ≡ server.seat.table_id) × (result.seat.me.0.layout ≡ server.seat.me.0.layout) × IsServer result.seat × IsIdle result.seat × (result.seat.me.0.closed ≡ 1) }
                 { stand(rt, station, server) },
             );

@@ -1,5 +1,5 @@
 use Rattle.std.proofs.Common.{◌≡◌}
-use Rattle.station_example.proofs.worker.input_value.Given as goal
+use Rattle.station_example.proofs.worker.future_value.Given as goal
 
 abbrev pub invariant-loop : goal.invariant-loop
 invariant-loop g l =
