@@ -5,7 +5,7 @@ use Rattle.station_rule.specs.Key.{Key}
 use Rattle.station_rule.specs.declared.cell.Cell.{Cell}
 use Rattle.station_rule.specs.declared.job.Job.{Job}
 use Rattle.station_rule.specs.declared.view.Sent.{Sent}
-use Rattle.station_rule.specs.Book.{sents, mark_of, slot_of, gen_of}
+use Rattle.station_rule.specs.Book.{sents, slot_of, gen_of}
 use Rattle.station_rule.specs.Cells.{input_of, EachHeld, IsInput}
 use Rattle.station_rule.specs.Core.{site_at}
 use Rattle.station_rule.specs.Steps.{job_of, rest_jobs}

@@ -1,11 +1,11 @@
-use Rattle.std.proofs.Common.{◌≡◌, ◌≢◌, ◌⊎◌, ℕ, ◌+◌, ◌*◌, ◌/◌, ◌%◌, ◌^◌, ◌<◌, ◌≤◌, Bool, true, false, cond, inl, inr, eqb, List, [], ◌∷◌, ◌++◌, length, get_or, sym, refl, ap, ◌∙◌, subst, ⊎_elim, arith, ne_eqb, eq-eqb}
+use Rattle.std.proofs.Common.{◌≡◌, ℕ, ◌+◌, ◌*◌, ◌^◌, ◌<◌, ◌≤◌, Bool, true, List, [], ◌∷◌, ◌++◌, length, sym, refl, ap, ◌∙◌, subst, ⊎_elim, arith, ne_eqb, eq-eqb}
 use mathlib.Core.Option.{some, some-ne-none}
 use lib.ListN.{get_elem?}
 use Rattle.station_rule.specs.declared.view.Sent.{Sent}
 use Rattle.station_rule.specs.declared.view.Entry.{Entry}
 use Rattle.station_rule.specs.declared.cell.Cell.{Cell}
 use Rattle.station_rule.specs.declared.job.Slot.{Slot}
-use Rattle.station_rule.specs.Book.{is_of, has_slot, calls, issued, slot_of, cell_slot, EachHandle, IsUnnamed, IsLive}
+use Rattle.station_rule.specs.Book.{is_of, has_slot, calls, slot_of, cell_slot, EachHandle, IsUnnamed, IsLive}
 use Rattle.station_rule.specs.Cells.{EachHeld, reset_mark}
 use Rattle.station_rule.specs.Seats.{IsCall}
 use Rattle.station_rule.proofs.CellWords.{each_handle, slot_kept}
@@ -45,4 +45,3 @@ fresh_call given book i reset input s e f call each =
 pub just_given : (book : List Entry) (e : Entry) (next : ℕ) → Fresh book next → slot_of e.words ≡ next → IsLive (book ++ e ∷ []) next 1
 just_given book e next f own =
     ap length (pick_hit (has_slot next) book e (eq-eqb (slot_of e.words) next own) ∙ ap (λ (l : List Entry). l ++ e ∷ []) (f.unissued next (let g : next ≤ next = omega arith in g)))
-

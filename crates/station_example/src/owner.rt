@@ -37,13 +37,7 @@ pub fn offer_once(
 }
 
 /// Offers a call with one input, and the next slot, until there is room.
-pub fn offer(
-    station: &Sums,
-    owner: &mut SumOwner,
-    instance: u32,
-    input: &[Cell],
-    slot: u32,
-) -> bool
+pub fn offer(station: &Sums, owner: &mut SumOwner, instance: u32, input: &[Cell], slot: u32) -> bool
     requires owner { IsSeatOf station.now owner.old.seat × IsOwner owner.old.seat × (owner.old.seat.me.0.entry ≡ []) × (owner.old.seat.me.0.closed ≡ 0) }
     requires instance { TakesOne station.now.layout instance }
     requires input { (length input.now ≡ 1) × EachHeld input.now (λ h. (0 < h.generation) × IsLive (book owner.old.seat) h.slot h.generation × (h.slot < slot) × (h.component < station.now.layout.components)) }

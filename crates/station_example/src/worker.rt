@@ -29,12 +29,7 @@ pub type SumServer = Server<Sum>;
 pub const TURNS: u64 = 50_000_000;
 
 // The value of a future of the job's input. A call that was taken has to be done, so this waits as long as it takes.
-fn future_value<R: Wait>(
-    rt: &R,
-    station: &Sums,
-    server: &mut SumServer,
-    handle: Handle,
-) -> u64
+fn future_value<R: Wait>(rt: &R, station: &Sums, server: &mut SumServer, handle: Handle) -> u64
     requires server { IsSeatOf station.now server.old.seat × IsServer server.old.seat × (server.old.seat.me.0.jobs ≡ job_of server.old.seat.me.0 ∷ rest_jobs server.old.seat.me.0.jobs) × HasInstance station.now (job_of server.old.seat.me.0).call.instance }
     requires handle { (get_elem? (input_of (job_of server.old.seat.me.0).call) 0 ≡ some (Held handle)) × (handle.slot < station.now.layout.slots) × (handle.component < station.now.layout.components) }
     ensures seat { IsSameSeat server.old.seat server.new.seat × (server.new.seat.me.0.jobs ≡ server.old.seat.me.0.jobs) × (server.new.seat.me.0.role ≡ server.old.seat.me.0.role) × (server.new.seat.me.0.layout ≡ server.old.seat.me.0.layout) × (server.new.seat.me.0.closed ≡ server.old.seat.me.0.closed) × (server.new.seat.me.1 ≡ server.old.seat.me.1) }
@@ -72,8 +67,10 @@ pub fn complete<R: Wait>(rt: &R, station: &Sums, server: &mut SumServer, mut job
     ensures { IsSameSeat server.old.seat server.new.seat × IsSeatOf station.now server.new.seat × IsServer server.new.seat × (server.new.seat.me.0.closed ≡ server.old.seat.me.0.closed) × (server.new.seat.me.0.jobs ≡ rest_jobs server.old.seat.me.0.jobs) × (server.new.seat.me.1 ≡ rest server.old.seat.me.1) }
 {
     let value = input_value(rt, station, server);
-    job.memory.step(value);
-    fill(station, server, &job, 0, job.memory.total());
+    let memory = job.memory();
+    memory.step(value);
+    let total = memory.total();
+    fill(station, server, &job, 0, total);
     finish(station, server, job);
 }
 

@@ -1,17 +1,14 @@
 -- The words of a call that is offered.
-use Rattle.std.proofs.Common.{◌≡◌, ◌≢◌, ℕ, ◌+◌, ◌*◌, ◌/◌, ◌%◌, ◌^◌, ◌<◌, ◌≤◌, Bool, List, [], ◌∷◌, ◌++◌, map, length, refl, sym, ap, ◌∙◌, subst, arith}
-use lib.ListN.{get_elem?}
-use mathlib.Core.Option.{some}
+use Rattle.std.proofs.Common.{◌≡◌, ◌≢◌, ℕ, ◌+◌, ◌*◌, ◌^◌, ◌<◌, ◌≤◌, Bool, List, refl, sym, ◌∙◌, subst, arith}
 use Rattle.station_rule.specs.Key.{Key}
 use Rattle.station_rule.specs.declared.cell.Handle.{Handle}
 use Rattle.station_rule.specs.declared.cell.Cell.{Cell}
-use Rattle.station_rule.specs.declared.cell.Cell.TheVariants.{Held}
 use Rattle.station_rule.specs.declared.job.Slot.{Slot}
 use Rattle.station_rule.specs.declared.view.Sent.{Sent}
 use Rattle.station_rule.specs.declared.view.Entry.{Entry}
 use Rattle.station_rule.specs.declared.view.View.{View}
-use Rattle.station_rule.specs.Book.{slot_of, gen_of, mark_of, cell_slot, cell_component, entry_of, values, EachHandle, InputsLive, IsLive}
-use Rattle.station_rule.specs.Cells.{kind_word, input_words, words_of, EachHeld, reset_mark, value_in}
+use Rattle.station_rule.specs.Book.{slot_of, cell_slot, cell_component, entry_of, EachHandle, InputsLive, IsLive}
+use Rattle.station_rule.specs.Cells.{words_of, EachHeld, reset_mark}
 use Rattle.station_rule.specs.Seats.{MayOffer, IsCall}
 use Rattle.station_rule.proofs.CellWords.{cells_kept, values_kept, each_handle, slot_kept, component_kept, head_slot, head_generation, head_mark}
 

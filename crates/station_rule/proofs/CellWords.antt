@@ -1,18 +1,16 @@
 -- Cells and the words that spell them.
-use Rattle.std.proofs.Common.{◌≡◌, ◌≢◌, ◌⊎◌, ℕ, zero, suc, ◌+◌, ◌-◌, ◌*◌, ◌/◌, ◌%◌, ◌^◌, ◌<◌, ◌≤◌, Bool, true, false, cond, List, [], ◌∷◌, ◌++◌, map, length, get_or, take, drop, sym, refl, ap, ◌∙◌, subst, inl, inr, ⊎_elim, arith, eqb, eq-eqb, ne_eqb, eqb-true, length-drop}
+use Rattle.std.proofs.Common.{◌≡◌, ◌≢◌, ◌⊎◌, ℕ, zero, suc, ◌+◌, ◌*◌, ◌/◌, ◌%◌, ◌^◌, ◌<◌, Bool, cond, List, [], ◌∷◌, ◌++◌, map, length, get_or, drop, sym, refl, ap, ◌∙◌, subst, inl, inr, ⊎_elim, arith, eqb, eq-eqb, ne_eqb, length-drop}
 use mathlib.Core.Option.{some, some-injective, some-ne-none}
 use mathlib.Core.Logic.{dite}
 use native.Mathlib.Decide.{ℕ_discrete}
 use lib.ListN.{get_elem?}
-use Rattle.station_rule.specs.Key.{Key}
 use Rattle.station_rule.specs.declared.cell.Handle.{Handle}
 use Rattle.station_rule.specs.declared.cell.Cell.{Cell}
 use Rattle.station_rule.specs.declared.cell.Cell.TheVariants.{Value, Ready, Held}
 use Rattle.station_rule.specs.declared.view.Sent.{Sent}
 use Rattle.station_rule.specs.declared.view.Entry.{Entry}
-use Rattle.station_rule.specs.Book.{slot_of, gen_of, mark_of, cell_slot, cell_component, cell_value, values, handle_value, EachHandle, IsHeld, IsSentAs, IsNarrow, InputsLive, IsLive}
-use Rattle.station_rule.specs.Core.{InRange}
-use Rattle.station_rule.specs.Cells.{kind_word, value_word, cell_of, cells_of, input_words, words_of, HasComponentBelow, EachHeld, value_in, IsInput}
+use Rattle.station_rule.specs.Book.{cell_slot, cell_component, cell_value, values, handle_value, EachHandle, IsHeld, IsSentAs, IsNarrow}
+use Rattle.station_rule.specs.Cells.{kind_word, value_word, cell_of, cells_of, input_words, HasComponentBelow, EachHeld, value_in, IsInput}
 use Rattle.station_rule.proofs.Lists.{get_or-drop_one}
 
 -- the three kinds of words

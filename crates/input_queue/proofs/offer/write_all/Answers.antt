@@ -1,4 +1,4 @@
-use Rattle.std.proofs.Common.{◌≡◌, ◌≢◌, ◌+◌, ◌*◌, ◌++◌, ◌∷◌, [], ◌<◌, ◌≤◌, ◌^◌, ℕ, List, length, take, get_or, ap, sym, refl, length-append, subst, ⊎_elim, ◌∙◌, arith}
+use Rattle.std.proofs.Common.{◌≡◌, ◌+◌, ◌*◌, ◌++◌, ◌∷◌, [], ◌<◌, ◌≤◌, ◌^◌, ℕ, List, length, take, get_or, ap, sym, length-append, subst, ◌∙◌, arith}
 use Rattle.std.proofs.lemmas.List.{length-take-le, take_all}
 use Rattle.station_rule.proofs.Lists.{some_below}
 use mathlib.Core.Option.{some, some-injective}
@@ -7,8 +7,8 @@ use native.Mathlib.Decide.{ℕ_discrete}
 use lib.ListN.{get_elem?}
 use Rattle.station_rule.specs.declared.cell.Cell.{Cell}
 use Rattle.station_rule.specs.declared.cell.Cell.TheVariants.{Value}
-use Rattle.station_rule.specs.Book.{calls, IsNarrow}
-use Rattle.station_rule.specs.Cells.{input_words, kind_word, value_word}
+use Rattle.station_rule.specs.Book.{calls}
+use Rattle.station_rule.specs.Cells.{input_words, value_word}
 use Rattle.station_rule.specs.Core.{place}
 use Rattle.station_rule.proofs.Lists.{take_next}
 use Rattle.station_rule.proofs.CellWords.{at_or, below_at, length-input_words, input_words-push, narrow_words}
@@ -59,7 +59,7 @@ loop-index-preserved g c =
     let here : get_elem? input i ≡ some cell = at_or input i (Value 0) (omega arith) in
     let words = c.to_words-kind.ensures.words in
     let more : (input_words (take i input) ++ c.to_words-kind.result.0 ∷ []) ++ c.to_words-kind.result.1 ∷ [] ≡ input_words (take (i + 1) input) =
-        (λ z. (input_words (take i input) ++ words.0 z ∷ []) ++ words.1 z ∷ []) ∙ sym (input_words-push (take i input) cell) ∙ ap input_words (sym (take_next input i cell here)) in (
+    (λ z. (input_words (take i input) ++ words.0 z ∷ []) ++ words.1 z ∷ []) ∙ sym (input_words-push (take i input) cell) ∙ ap input_words (sym (take_next input i cell here)) in (
       two.0.0 ∙ one.0.0 ∙ inv.0,
       two.0.1 ∙ one.0.1 ∙ inv.1,
       two.1 ∙ ap (λ m. (record m.0 { at = c.args.instance; entry = m.0.entry ++ c.to_words-kind.result.1 ∷ [] }, m.1)) one.1

@@ -1,16 +1,14 @@
-use Rattle.std.proofs.Common.{◌≡◌, ◌≢◌, ◌<◌, ◌≤◌, ◌+◌, ◌*◌, ◌/◌, ◌%◌, ◌^◌, ◌++◌, ◌∷◌, [], Bool, not, eqb, length, arith, ap, sym, refl, ◌∙◌, subst, ℕ, List, get_or}
+use Rattle.std.proofs.Common.{◌≡◌, ◌<◌, ◌+◌, ◌*◌, ◌/◌, ◌%◌, ◌^◌, ◌++◌, ◌∷◌, [], not, eqb, length, arith, ap, sym, ◌∙◌, subst, ℕ, List, get_or}
 use Rattle.std.specs.Prelude.{Option, Some, None}
 use Rattle.atomic_table.specs.Table.{rest}
 use Rattle.station_rule.specs.declared.cell.Cell.{Cell}
 use Rattle.station_rule.specs.declared.layout.Site.{Site}
-use Rattle.station_rule.specs.declared.view.Entry.{Entry}
 use Rattle.station_rule.specs.declared.view.Sent.{Sent}
 use Rattle.station_rule.specs.declared.view.Work.{Work}
 use Rattle.station_rule.specs.declared.view.Look.{Look}
 use Rattle.station_rule.specs.Book.{sents, slot_of, gen_of}
 use Rattle.station_rule.specs.Cells.{input_of, EachHeld, IsInput}
 use Rattle.station_rule.specs.Core.{site_at, InRange}
-use Rattle.station_rule.specs.Key.{Key}
 use Rattle.station_rule.specs.Steps.{job_of, last_job, rest_jobs}
 use Rattle.station_rule.proofs.CellWords.{length-input, each_held, is_input}
 use Rattle.input_queue.proofs.take.try_take.Goals as goal
@@ -63,8 +61,7 @@ returns-clause-take g c =
     let long = length-input words odd in
     let of_slot : c.take_memory.result.slot.slot ≡ slot_of words = job.3 ∙ ap (λ (z : ℕ). z / 2 ^ 32 % 2 ^ 20) head in
     let of_generation : c.take_memory.result.slot.generation ≡ gen_of words = job.4 ∙ ap (λ (z : ℕ). z % 2 ^ 32) head in
-    let look : ℕ → ℕ → Look = λ a n. record { word = a; found = n } in
-    (
+    let look : ℕ → ℕ → Look = λ a n. record { word = a; found = n } in (
       turn,
       record {
         was_free = let z = c.if-turn-eq1.false in omega arith;

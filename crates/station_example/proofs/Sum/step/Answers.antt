@@ -1,4 +1,4 @@
-use Rattle.std.proofs.Common.{◌≡◌, ◌+◌, ◌%◌, ◌^◌, ap, ℕ}
+use Rattle.std.proofs.Common.{◌+◌, ◌%◌, ◌^◌, ap, ℕ}
 use Rattle.station_example.proofs.Totals.{stands-push}
 use Rattle.station_example.proofs.Sum.step.Goals as goal
 

@@ -1,4 +1,4 @@
-use Rattle.std.proofs.Common.{◌≡◌, ◌<◌, ◌≤◌, ◌+◌, ◌*◌, ap, sym, ◌∙◌, subst, ℕ, List, length, arith, true, false}
+use Rattle.std.proofs.Common.{◌≤◌, ◌+◌, ap, sym, subst, ℕ, List, length, arith, false}
 use Rattle.station_rule.specs.declared.view.Entry.{Entry}
 use Rattle.station_rule.specs.Book.{IsLive}
 use Rattle.station_rule.specs.Seats.{book}

@@ -1,4 +1,4 @@
-use Rattle.std.proofs.Common.{◌≡◌, ◌<◌, ◌∷◌, [], ◌++◌, ℕ, zero, suc, List, length, Some, ap, sym, ◌∙◌, refl, subst, rules, arith}
+use Rattle.std.proofs.Common.{◌≡◌, ◌<◌, ◌∷◌, [], ℕ, zero, suc, List, length, Some, sym, refl, subst, rules, arith}
 use Rattle.std.specs.Prelude.{Option}
 use mathlib.Core.Option.{some}
 use lib.ListN.{get_elem?}

@@ -1,4 +1,4 @@
-use Rattle.std.proofs.Common.{◌≡◌, ◌≤◌}
+use Rattle.std.proofs.Common.{◌≤◌}
 use Rattle.station_rule.specs.Seats.{IsSeatOf, IsSameSeat, IsServer, IsIdle}
 use Rattle.station_example.proofs.worker.work.Given as goal
 
