@@ -1,5 +1,5 @@
 -- What the reader of the first programs has read, production by production.
-use Rattle.std.specs.Prelude.{◌≡◌, ◌==◌, ℕ, suc, true, length, List, [], ◌∷◌, ◌++◌, None, refl, ◌⊎◌}
+use Rattle.std.specs.Prelude.{◌≡◌, ◌==◌, ℕ, suc, true, length, List, [], ◌∷◌, ◌++◌, Some, None, refl, ◌⊎◌}
 use Rattle.std.proofs.Common.{subst, ap, ◌∙◌, sym, inl, inr, neg_ℤ, arith, eqb-true, append_assoc, append-nil}
 use Rattle.hept_ast.specs.declared.tree.Program.{Program}
 use Rattle.hept_ast.specs.declared.tree.TypeDec.{TypeDec}
@@ -16,7 +16,8 @@ use Rattle.ept_reader.specs.declared.token.Kind.TheVariants.{CloseParen, Colon, 
 use Rattle.ept_reader.specs.declared.token.Token.{Token}
 use Rattle.ept_reader.specs.declared.token.Role.TheVariants.{Operator, Fresh}
 use Rattle.ept_reader.specs.declared.token.Counts.{Counts}
-use Rattle.ept_reader.specs.Grammar.{here, there, part, Whole, Node_dec, Inputs, Input, More_names, Locals, Decls, More_decls, Declaration, Type_of, Eqs, Eq, Expression, Fbys, Sampled, Sum, Sum_tail, Product, Prefix, at, place_of, sign, grouped, declared, after, allows, Fits, Spells}
+use Rattle.ept_reader.specs.declared.token.Level.TheVariants as level
+use Rattle.ept_reader.specs.Grammar.{here, there, part, Whole, Node_dec, Inputs, Input, More_names, Locals, Decls, More_decls, Declaration, Type_of, Eqs, Eq, Expression, Fbys, Sampled, Infix, Operand, Operands, Prefix, at, place_of, sign, grouped, declared, after, allows, Fits, Spells}
 use Rattle.ept_reader.specs.Text.{none_yet, IsText}
 use Rattle.ept_reader.specs.Spelling.{SpellsTo, SpellsPart, SpellsPlain}
 use Rattle.ept_reader.proofs.Spelled.{Takes, begun, past, past_word, past_part, nest, same_gives}
@@ -95,45 +96,45 @@ locals_read {c = c} took d = past_part (past_word (begun _ (there here)) took) (
 -- ---- expressions
 
 -- a sum with no other sign after it
-sampled_sum : {text rest : List Token} {c now : Counts} {e : Expr} → SpellsPart Sum text c e rest now → SpellsPart Sampled text c e rest now
+sampled_sum : {text rest : List Token} {c now : Counts} {e : Expr} → SpellsPart (Infix level.Sum) text c e rest now → SpellsPart Sampled text c e rest now
 sampled_sum s =
-    let compared = past_part (past_part (begun _ here) s) (begun _ here) in
-    let ands = past_part (past_part (begun _ here) compared) (begun _ here) in
-    let ors = past_part (past_part (begun _ here) ands) (begun _ here) in
+    let compared = past_part (past_part (begun _ here) (past_part (begun _ here) s)) (begun _ here) in
+    let ands = past_part (past_part (begun _ here) (past_part (begun _ here) compared)) (begun _ here) in
+    let ors = past_part (past_part (begun _ here) (past_part (begun _ here) ands)) (begun _ here) in
     past_part (past_part (begun _ here) ors) (begun _ here)
 
-pub fbys_alone : {text rest : List Token} {c now : Counts} {e : Expr} → SpellsPart Sum text c e rest now → SpellsPart Fbys text c e rest now
+pub fbys_alone : {text rest : List Token} {c now : Counts} {e : Expr} → SpellsPart (Infix level.Sum) text c e rest now → SpellsPart Fbys text c e rest now
 fbys_alone s = past_part (past_part (begun _ here) (sampled_sum s)) (begun _ here)
 
 pub fbys_both : {text mid ts rest : List Token} {c then over now : Counts} {t : Token} {a b : Expr} (e : Expr)
-    → SpellsPart Sum text c a mid then → Takes Fby mid t ts → (allows Operator then ≡ true) × (over ≡ after Operator then) → SpellsPart Fbys ts over b rest now → e ≡ at t.place (form.Fby a b) → SpellsPart Fbys text c e rest now
+    → SpellsPart (Infix level.Sum) text c a mid then → Takes Fby mid t ts → (allows Operator then ≡ true) × (over ≡ after Operator then) → SpellsPart Fbys ts over b rest now → e ≡ at t.place (form.Fby a b) → SpellsPart Fbys text c e rest now
 fbys_both {text = text} {rest = rest} {c = c} {now = now} e s took fit f same =
     let tail = past_part (past (begun _ (there here)) took fit) f in
     subst (λ x. SpellsPart Fbys text c x rest now) (sym same) (past_part (past_part (begun _ here) (sampled_sum s)) tail)
 
 -- an expression with no arrow
 pub expression_read : {text rest : List Token} {c now : Counts} {e : Expr} → SpellsPart Fbys text c e rest now → SpellsPart Expression text c e rest now
-expression_read f = past_part (begun _ (there here)) (past_part (past_part (begun _ here) f) (begun _ here))
+expression_read f = past_part (begun _ here) (past_part (past_part (begun _ here) f) (begun _ here))
 
-product : {text rest : List Token} {c now : Counts} {e : Expr} → SpellsPart Prefix text c e rest now → SpellsPart Product text c e rest now
-product p = past_part (past_part (begun _ here) p) (begun _ here)
+an_operand : {text rest : List Token} {c now : Counts} {e : Expr} → SpellsPart Prefix text c e rest now → SpellsPart (Operand level.Sum) text c e rest now
+an_operand p = past_part (begun _ here) (past_part (past_part (begun _ here) (past_part (begun _ here) p)) (begun _ here))
 
-pub sum_first : {text rest : List Token} {c now : Counts} {e : Expr} → SpellsPart Prefix text c e rest now → SpellsTo Sum text c (part Sum_tail ∷ []) (λ us. grouped e us.0) rest now
-sum_first p = past_part (begun _ here) (product p)
+pub sum_first : {text rest : List Token} {c now : Counts} {e : Expr} → SpellsPart Prefix text c e rest now → SpellsTo (Infix level.Sum) text c (part (Operands (Some level.Sum)) ∷ []) (λ us. grouped e us.0) rest now
+sum_first p = past_part (begun _ here) (an_operand p)
 
 sum_tail : {ts rest end : List Token} {c over now : Counts} {t : Token} {e : Expr} → ts ≡ t ∷ rest → (t.kind ≡ Plus) ⊎ (t.kind ≡ Minus) → (allows Operator c ≡ true) × (over ≡ after Operator c)
-    → SpellsPart Prefix rest over e end now → SpellsTo Sum_tail ts c (part Sum_tail ∷ []) (λ us. (t, e) ∷ us.0) end now
-sum_tail s (inl k) fit p = past_part (past (begun _ (there here)) (s, k) fit) (product p)
-sum_tail s (inr k) fit p = past_part (past (begun _ (there (there here))) (s, k) fit) (product p)
+    → SpellsPart Prefix rest over e end now → SpellsTo (Operands (Some level.Sum)) ts c (part (Operands (Some level.Sum)) ∷ []) (λ us. (t, e) ∷ us.0) end now
+sum_tail s (inl k) fit p = past_part (past (begun _ (there here)) (s, k) fit) (an_operand p)
+sum_tail s (inr k) fit p = past_part (past (begun _ (there (there here))) (s, k) fit) (an_operand p)
 
 pub sum_more : {text ts rest end : List Token} {from c over now : Counts} {left : Expr} {t : Token} {o : BinaryOp} {e : Expr} (new : Expr)
-    → SpellsTo Sum text from (part Sum_tail ∷ []) (λ us. grouped left us.0) ts c → (ts ≡ t ∷ rest) × (o ≡ sign t.kind) × ((t.kind ≡ Plus) ⊎ (t.kind ≡ Minus)) → (allows Operator c ≡ true) × (over ≡ after Operator c)
-    → SpellsPart Prefix rest over e end now → new ≡ at t.place (form.Binary o left e) → SpellsTo Sum text from (part Sum_tail ∷ []) (λ us. grouped new us.0) end now
+    → SpellsTo (Infix level.Sum) text from (part (Operands (Some level.Sum)) ∷ []) (λ us. grouped left us.0) ts c → (ts ≡ t ∷ rest) × (o ≡ sign t.kind) × ((t.kind ≡ Plus) ⊎ (t.kind ≡ Minus)) → (allows Operator c ≡ true) × (over ≡ after Operator c)
+    → SpellsPart Prefix rest over e end now → new ≡ at t.place (form.Binary o left e) → SpellsTo (Infix level.Sum) text from (part (Operands (Some level.Sum)) ∷ []) (λ us. grouped new us.0) end now
 sum_more {text = text} {end = end} {from = from} {now = now} {left = left} {t = t} {e = e} new w s fit p same =
     let is : at t.place (form.Binary (sign t.kind) left e) ≡ new = ap (λ x. at t.place (form.Binary x left e)) (sym s.1) ∙ sym same in
-    subst (λ x. SpellsTo Sum text from (part Sum_tail ∷ []) (λ us. grouped x us.0) end now) is (nest w (sum_tail s.0 s.2 fit p))
+    subst (λ x. SpellsTo (Infix level.Sum) text from (part (Operands (Some level.Sum)) ∷ []) (λ us. grouped x us.0) end now) is (nest w (sum_tail s.0 s.2 fit p))
 
-pub sum_end : {text ts : List Token} {from c : Counts} {e : Expr} → SpellsTo Sum text from (part Sum_tail ∷ []) (λ us. grouped e us.0) ts c → SpellsPart Sum text from e ts c
+pub sum_end : {text ts : List Token} {from c : Counts} {e : Expr} → SpellsTo (Infix level.Sum) text from (part (Operands (Some level.Sum)) ∷ []) (λ us. grouped e us.0) ts c → SpellsPart (Infix level.Sum) text from e ts c
 sum_end w = nest w (begun _ here)
 
 pub number_read : {text rest : List Token} {c : Counts} {t : Token} (e : Expr) → Takes Number text t rest → e ≡ at t.place (form.Const (const.Number t.number)) → SpellsPart Prefix text c e rest c
@@ -143,21 +144,21 @@ number_read {text = text} {rest = rest} {c = c} {t = t} e took same =
 
 pub variable_read : {text rest : List Token} {c : Counts} {t : Token} (e : Expr) → Takes Lower text t rest → e ≡ at t.place (form.Var t.name) → SpellsPart Prefix text c e rest c
 variable_read {text = text} {rest = rest} {c = c} {t = t} e took same =
-    let atom = past_part (past_word (begun _ (there (there (there (there here))))) took) (begun _ here) in
+    let atom = past_part (past_word (begun _ here) took) (begun _ here) in
     let is : at (place_of text) (form.Var t.name) ≡ e = ap (λ ts. at (place_of ts) (form.Var t.name)) took.0 ∙ sym same in
-    subst (λ x. SpellsPart Prefix text c x rest c) is (past_part (begun _ (there (there here))) atom)
+    subst (λ x. SpellsPart Prefix text c x rest c) is (past_part (begun _ here) atom)
 
 pub negative_read : {rest end : List Token} {c over : Counts} {minus t : Token} (e : Expr) → minus.kind ≡ Minus → (allows Operator c ≡ true) × (over ≡ after Operator c) → Takes Number rest t end
     → e ≡ at minus.place (form.Const (const.Number (neg_ℤ t.number))) → SpellsPart Prefix (minus ∷ rest) c e end over
 negative_read {rest = rest} {end = end} {c = c} {over = over} {minus = minus} {t = t} e k fit took same =
     let signed = past_part (past (begun _ here) (refl, k) fit) (past_word (begun _ here) took) in
-    subst (λ x. SpellsPart Prefix (minus ∷ rest) c x end over) (sym same) (past_part (begun _ here) signed)
+    subst (λ x. SpellsPart Prefix (minus ∷ rest) c x end over) (sym same) (past_part (begun _ (there (there here))) signed)
 
 pub inside_read : {text ts mid rest : List Token} {c over now : Counts} {open_one close_one : Token} {e : Expr} → Takes OpenParen text open_one ts → (allows Operator c ≡ true) × (over ≡ after Operator c)
     → SpellsPart Fbys ts over e mid now → Takes CloseParen mid close_one rest → SpellsPart Prefix text c e rest now
 inside_read a fit f b =
-    let atom = past_word (past_part (past (begun _ (there (there (there (there (there (there (there here)))))))) a fit) (expression_read f)) b in
-    past_part (begun _ (there (there here))) atom
+    let atom = past_word (past_part (past (begun _ (there here)) a fit) (expression_read f)) b in
+    past_part (begun _ here) atom
 
 -- ---- equations
 

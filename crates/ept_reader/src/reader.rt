@@ -1,6 +1,7 @@
 //! Reads the bytes of programs of one node of integers.
 ghost use Rattle.std.specs.Prelude.{true, ◌≡◌, ◌≢◌, ◌<◌, ◌≤◌, ◌^◌, ◌∷◌, ◌++◌, [], Some, None, List, length, map, OnOk, IfOk, IfSome, MatchOption, MatchResult, IsTrue, neg_ℤ, false, ◌↔◌, ◌⊎◌};
-ghost use Rattle.ept_reader.specs.Grammar.{after, allows, at, declared, sign, Inputs, Input, More_names, Locals, Decls, Declaration, Eqs, Eq, Expression, Fbys, Sum, Prefix, Node_dec, Whole};
+ghost use Rattle.ept_reader.specs.Grammar.{after, allows, at, declared, sign, Inputs, Input, More_names, Locals, Decls, Declaration, Eqs, Eq, Expression, Fbys, Infix, Prefix, Node_dec, Whole};
+ghost use Rattle.ept_reader.specs.declared.token.Level.TheVariants as level;
 ghost use Rattle.ept_reader.specs.Reading.{look};
 ghost use Rattle.ept_reader.specs.Text.{IsText};
 ghost use Rattle.ept_reader.specs.Spelling.{IsProgramText, SpellsPart, SpellsPlain};
@@ -28,6 +29,10 @@ pub enum ReadFault {
 }
 
 impl From<AllocError> for ReadFault {
+    ghost use Rattle.ept_reader.specs.declared.reader.ReadFault.TheVariants.{Memory};
+
+    ghost from_gives = { λ _ e. e ≡ Memory };
+
     fn from(_: AllocError) -> ReadFault {
         ReadFault::Memory
     }
@@ -303,7 +308,7 @@ fn sum(
     tokens: &[Token],
     counts: Counts,
 ) -> Result<(Expr, &[Token], Counts), ReadFault>
-    ensures spelled { IfOk result (λ x. SpellsPart Sum tokens.now counts x.0 x.1.now x.2) }
+    ensures spelled { IfOk result (λ x. SpellsPart (Infix level.Sum) tokens.now counts x.0 x.1.now x.2) }
     ensures shorter { IfOk result (λ x. length x.1.now < length tokens.now) }
 {
     let (mut left, mut rest, mut now) = operand(alloc, tokens, counts)?;

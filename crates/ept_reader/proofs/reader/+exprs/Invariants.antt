@@ -1,5 +1,6 @@
-use Rattle.std.proofs.Common.{◌<◌, ◌+◌, ◌*◌, length, [], ◌∷◌}
-use Rattle.ept_reader.specs.Grammar.{Sum, Sum_tail, part, grouped}
+use Rattle.std.proofs.Common.{◌<◌, ◌+◌, ◌*◌, length, [], ◌∷◌, Some}
+use Rattle.ept_reader.specs.Grammar.{Infix, Operands, part, grouped}
+use Rattle.ept_reader.specs.declared.token.Level.TheVariants as level
 use Rattle.ept_reader.specs.Spelling.{SpellsTo}
 use Rattle.ept_reader.proofs.reader.+exprs.Given as goal
 
@@ -13,7 +14,7 @@ abbrev pub decreases-operand : goal.decreases-operand
 decreases-operand l = 4 * length l.tokens.now
 
 abbrev pub invariant-sum-signs : goal.invariant-sum-signs
-invariant-sum-signs l = record { so_far : SpellsTo Sum l.tokens l.fn.counts (part Sum_tail ∷ []) (λ us. grouped l.left us.0) l.rest l.now; shorter : length l.rest < length l.tokens }
+invariant-sum-signs l = record { so_far : SpellsTo (Infix level.Sum) l.tokens l.fn.counts (part (Operands (Some level.Sum)) ∷ []) (λ us. grouped l.left us.0) l.rest l.now; shorter : length l.rest < length l.tokens }
 
 abbrev pub decreases-sum-signs : goal.decreases-sum-signs
 decreases-sum-signs l = length l.rest
