@@ -1,0 +1,12 @@
+//! The text of traces: rows of input values, read from lines, and rows of output values, written to a
+//! sink.
+#![tactic(auto)]
+
+mod output_text;
+mod row_text;
+#[cfg(test)]
+mod tests;
+mod value_text;
+
+pub use output_text::RowWriter;
+pub use row_text::{RowFault, read_row};
