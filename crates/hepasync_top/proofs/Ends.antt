@@ -7,15 +7,16 @@ use Rattle.std.proofs.lemmas.List.{append-nil}
 use Rattle.hept_ast.specs.declared.tree.Program.{Program}
 use Rattle.hept_ast.specs.Laws.{ErasedKeepsOutputs}
 use Rattle.hept_io.specs.Lines.{to_come}
-use Rattle.hepasync_top.specs.OutputText.{row_line, output_text}
-use Rattle.hepasync_top.specs.Outputs.{input_count}
+use Rattle.trace_io.specs.OutputText.{row_line, output_text}
+use Rattle.step_objects.specs.declared.shape.Values.{Values}
+use Rattle.hepasync_top.specs.Outputs.{input_shape, output_shape}
 use Rattle.hepasync_top.specs.Turns.{LosesRows, AtMost, NextIsBad, HasNext, EndsAfter, ended, bad_row, limit_reached, read_fault, write_fault}
 use Rattle.hepasync_top.specs.Machine.{HasDone, Turns, TurnsEnd, EndsHere}
 use Rattle.hepasync_top.specs.declared.machine.Machine.{Machine}
 use Rattle.hepasync_top.specs.declared.end.End.{End}
 use Rattle.hepasync_top.specs.declared.end.End.TheVariants.{Ended, Refused, Usage, File, BadRow, Limit, ReadFault, WriteFault, Memory}
 use Rattle.hepasync_top.proofs.NextOutputs.{erased_outputs}
-use Rattle.hepasync_top.proofs.SinkBytes.{appends_both, appends_kept, appends_none, keeps_same}
+use Rattle.trace_io.proofs.SinkBytes.{appends_both, appends_kept, appends_none, keeps_same}
 use Rattle.hepasync_top.proofs.LineSteps.{loses_both, loses_none, left_of_coming}
 
 -- n rows counted
@@ -24,14 +25,14 @@ pub record SoFar (p : Program) (n : ℕ) (coming held : Option (List ℕ)) (m : 
   pub outs : List (List ℕ)
   pub count : length rows ≡ n
   pub done : HasDone p m rows outs
-  pub read : LosesRows (input_count p) coming rows rest
-  pub written : Appends held now (output_text outs)
+  pub read : LosesRows (input_shape p) coming rows rest
+  pub written : Appends held now (output_text (output_shape p) outs)
 
 pub none_yet : (p : Program) (coming held : Option (List ℕ)) (m : Machine) → HasDone p m [] [] → SoFar p 0 coming held m coming held
-none_yet p coming held m h = record { rows = []; outs = []; count = refl; done = h; read = loses_none (input_count p) coming; written = appends_none held }
+none_yet p coming held m h = record { rows = []; outs = []; count = refl; done = h; read = loses_none (input_shape p) coming; written = appends_none held }
 
-text_of_more : (outs : List (List ℕ)) (out : List ℕ) → output_text (outs ++ out ∷ []) ≡ output_text outs ++ row_line out
-text_of_more outs out = flat_map-append row_line outs (out ∷ []) ∙ ap (λ text. output_text outs ++ text) (append-nil (row_line out))
+text_of_more : (shape : List Values) (outs : List (List ℕ)) (out : List ℕ) → output_text shape (outs ++ out ∷ []) ≡ output_text shape outs ++ row_line shape out
+text_of_more shape outs out = flat_map-append (row_line shape) outs (out ∷ []) ∙ ap (λ text. output_text shape outs ++ text) (append-nil (row_line shape out))
 
 pub one_counted : (p : Program) (n : ℕ) (coming held : Option (List ℕ)) (m new : Machine) (rest now left later : Option (List ℕ)) (u : Unit {0}) →
     (s : SoFar p n coming held m rest now) → Turns p s.rows s.outs rest now (Ok u) new left later → SoFar p (n + 1) coming held new (to_come new.reader left) later
@@ -40,8 +41,8 @@ one_counted p n coming held m new rest now left later u s (row, out, done, read,
   outs = s.outs ++ out ∷ [];
   count = omega (arith, length-append s.rows (row ∷ []), s.count);
   done = done;
-  read = loses_both (input_count p) coming rest (to_come new.reader left) s.rows (row ∷ []) s.read read;
-  written = subst (Appends held later) (sym (text_of_more s.outs out)) (appends_both held now later (output_text s.outs) (row_line out) s.written written);
+  read = loses_both (input_shape p) coming rest (to_come new.reader left) s.rows (row ∷ []) s.read read;
+  written = subst (Appends held later) (sym (text_of_more (output_shape p) s.outs out)) (appends_both held now later (output_text (output_shape p) s.outs) (row_line (output_shape p) out) s.written written);
 }
 
 ends : ErasedKeepsOutputs → (p : Program) (n : ℕ) (coming held : Option (List ℕ)) (m : Machine) (rest now left later : Option (List ℕ)) (Why : ℕ → Option (List ℕ) → Type 0) →
@@ -50,7 +51,7 @@ ends law p n coming held m rest now left later Why s k within why = record {
   rows = s.rows;
   outs = s.outs;
   rest = rest;
-  counted = record { read = s.read; outputs = erased_outputs p s.rows s.outs law s.done.outputs; written = appends_kept held now later (output_text s.outs) s.written k };
+  counted = record { read = s.read; outputs = erased_outputs p s.rows s.outs law s.done.outputs; written = appends_kept held now later (output_text (output_shape p) s.outs) s.written k };
   within = within;
   why = why;
 }
@@ -59,7 +60,7 @@ ends law p n coming held m rest now left later Why s k within why = record {
 pub stops : ErasedKeepsOutputs → (p : Program) (limit n : ℕ) (coming held : Option (List ℕ)) (m new : Machine) (rest now left later : Option (List ℕ)) (end : End) →
     (s : SoFar p n coming held m rest now) → Turns p s.rows s.outs rest now (Err end) new left later → TurnsEnd p limit coming held end left later
 stops law p limit n coming held m new rest now left later Ended s h = ended (ends law p n coming held m rest now left later (λ n rest. IsAtEnd rest) s h.2 h.1 h.0)
-stops law p limit n coming held m new rest now left later BadRow s h = bad_row (ends law p n coming held m rest now left later (λ n rest. NextIsBad (input_count p) rest) s h.2 h.1 h.0)
+stops law p limit n coming held m new rest now left later BadRow s h = bad_row (ends law p n coming held m rest now left later (λ n rest. NextIsBad (input_shape p) rest) s h.2 h.1 h.0)
 stops law p limit n coming held m new rest now left later ReadFault s h = read_fault (ends law p n coming held m rest now left later (λ n rest. ⊤) s h.1 h.0 tt)
 stops law p limit n coming held m new rest now left later WriteFault s (row, out, outputs, read, part) = write_fault (record {
   rows = s.rows;
@@ -67,11 +68,11 @@ stops law p limit n coming held m new rest now left later WriteFault s (row, out
   row = row;
   out = out;
   rest = to_come new.reader left;
-  read = loses_both (input_count p) coming rest (to_come new.reader left) s.rows (row ∷ []) s.read read;
+  read = loses_both (input_shape p) coming rest (to_come new.reader left) s.rows (row ∷ []) s.read read;
   outputs = erased_outputs p (s.rows ++ row ∷ []) (s.outs ++ out ∷ []) law outputs;
   taken = part.0;
   part = part.1;
-  written = appends_both held now later (output_text s.outs) (take part.0 (row_line out)) s.written part.2;
+  written = appends_both held now later (output_text (output_shape p) s.outs) (take part.0 (row_line (output_shape p) out)) s.written part.2;
   within = left_of_coming new.reader.pending left;
 })
 stops law p limit n coming held m new rest now left later Refused s h = absurd h

@@ -6,9 +6,12 @@ use Rattle.hept_io.specs.declared.lines.LineFault.{LineFault}
 use Rattle.std.specs.Borrow.{Bor}
 use Rattle.std.proofs.lemmas.List.{map-append}
 use Rattle.hepasync_top.proofs.NextOutputs.{written_back}
-use Rattle.hepasync_top.specs.RowText.{row_text}
+use Rattle.step_objects.specs.declared.shape.Values.{Values}
+use Rattle.step_objects.specs.declared.cell.Cell.{Cell}
+use Rattle.step_objects.specs.Shapes.{cells_of, row_of}
+use Rattle.trace_io.specs.RowText.{IsRow, row_text}
 use Rattle.hepasync_top.specs.Turns.{TakesRows, LosesRows, AtMost, NextIsBad}
-use Rattle.hepasync_top.specs.declared.row_text.RowFault.{RowFault}
+use Rattle.trace_io.specs.declared.row_text.RowFault.{RowFault}
 
 shorter_rest : (bytes line rest : List ℕ) → IsFirstLine bytes line rest → length rest + 1 ≤ length bytes
 shorter_rest bytes line rest h = ⊎_elim
@@ -16,7 +19,7 @@ shorter_rest bytes line rest h = ⊎_elim
     (λ e. omega (arith, ap length e.0, ap length e.1, e.2))
     h.cut
 
-takes_one : (inputs : ℕ) (bytes line rest row : List ℕ) → IsFirstLine bytes line rest → row_text inputs line ≡ Ok row → TakesRows inputs bytes (row ∷ []) rest
+takes_one : (inputs : List Values) (bytes line rest row : List ℕ) → IsFirstLine bytes line rest → row_text inputs line ≡ Ok row → TakesRows inputs bytes (row ∷ []) rest
 takes_one inputs bytes line rest row h r = record {
   lines = line ∷ [];
   cut = h.lines;
@@ -24,12 +27,12 @@ takes_one inputs bytes line rest row h r = record {
   shorter = shorter_rest bytes line rest h;
 }
 
-pub loses_one : (inputs : ℕ) (coming rest : Option (List ℕ)) (line row : List ℕ) → LosesLine coming line rest → row_text inputs line ≡ Ok row → LosesRows inputs coming (row ∷ []) rest
+loses_one : (inputs : List Values) (coming rest : Option (List ℕ)) (line row : List ℕ) → LosesLine coming line rest → row_text inputs line ≡ Ok row → LosesRows inputs coming (row ∷ []) rest
 loses_one inputs None rest line row h r = tt
 loses_one inputs (Some bytes) None line row h r = absurd h
 loses_one inputs (Some bytes) (Some rest) line row h r = takes_one inputs bytes line rest row h r
 
-pub next_is_bad : (inputs : ℕ) (coming rest : Option (List ℕ)) (line : List ℕ) (e : RowFault) → LosesLine coming line rest → row_text inputs line ≡ Err e → NextIsBad inputs coming
+pub next_is_bad : (inputs : List Values) (coming rest : Option (List ℕ)) (line : List ℕ) (e : RowFault) → LosesLine coming line rest → row_text inputs line ≡ Err e → NextIsBad inputs coming
 next_is_bad inputs None rest line e h r = tt
 next_is_bad inputs (Some bytes) None line e h r = absurd h
 next_is_bad inputs (Some bytes) (Some rest) line e h r = record { line = line; others = lines_of rest; lines = h.lines; fault = inl (e, r) }
@@ -45,7 +48,7 @@ given old left answer line new rest e h = subst (λ a. Moves old left a new rest
 
 -- ---- several turns
 
-loses_lines : (inputs : ℕ) (a b c : List ℕ) (rows more : List (List ℕ)) → TakesRows inputs a rows b → TakesRows inputs b more c → TakesRows inputs a (rows ++ more) c
+loses_lines : (inputs : List Values) (a b c : List ℕ) (rows more : List (List ℕ)) → TakesRows inputs a rows b → TakesRows inputs b more c → TakesRows inputs a (rows ++ more) c
 loses_lines inputs a b c rows more h k = record {
   lines = h.lines ++ k.lines;
   cut = h.cut ∙ ap (λ ls. h.lines ++ ls) k.cut ∙ sym (append_assoc h.lines k.lines (lines_of c));
@@ -53,13 +56,13 @@ loses_lines inputs a b c rows more h k = record {
   shorter = omega (arith, h.shorter, k.shorter, length-append rows more);
 }
 
-pub loses_both : (inputs : ℕ) (a b c : Option (List ℕ)) (rows more : List (List ℕ)) → LosesRows inputs a rows b → LosesRows inputs b more c → LosesRows inputs a (rows ++ more) c
+pub loses_both : (inputs : List Values) (a b c : Option (List ℕ)) (rows more : List (List ℕ)) → LosesRows inputs a rows b → LosesRows inputs b more c → LosesRows inputs a (rows ++ more) c
 loses_both inputs None b c rows more h k = tt
 loses_both inputs (Some a) None c rows more h k = absurd h
 loses_both inputs (Some a) (Some b) None rows more h k = absurd k
 loses_both inputs (Some a) (Some b) (Some c) rows more h k = loses_lines inputs a b c rows more h k
 
-pub loses_none : (inputs : ℕ) (a : Option (List ℕ)) → LosesRows inputs a [] a
+pub loses_none : (inputs : List Values) (a : Option (List ℕ)) → LosesRows inputs a [] a
 loses_none inputs None = tt
 loses_none inputs (Some a) = record { lines = []; cut = refl; read = refl; shorter = omega arith }
 
@@ -68,10 +71,18 @@ left_of_coming pending None = tt
 left_of_coming pending (Some left) = omega (arith, length-append pending left)
 
 -- the same loss, of a row that was written into a whole vector
-pub loses_row : (n inputs len : ℕ) (coming : Option (List ℕ)) (old new : List ℕ) (r s : Reading) (left : Option (List ℕ)) →
-    n ≡ inputs → len ≡ length new → s ≡ r → LosesRows n coming (new ∷ []) (to_come r left) →
-    LosesRows inputs coming (take len (new ++ drop (length new) old) ∷ []) (to_come s left)
-loses_row n inputs len coming old new r s left count whole same h =
-    let a = subst (λ (k : ℕ). LosesRows k coming (new ∷ []) (to_come r left)) count h in
-    let b = subst (λ (row : List ℕ). LosesRows inputs coming (row ∷ []) (to_come r left)) (sym (written_back old new len whole)) a in
-    subst (λ (reader : Reading). LosesRows inputs coming (take len (new ++ drop (length new) old) ∷ []) (to_come reader left)) (sym same) b
+pub loses_row : (shape inputs : List Values) (len : ℕ) (coming : Option (List ℕ)) (old new : List Cell) (r s : Reading) (left : Option (List ℕ)) →
+    shape ≡ inputs → len ≡ length new → s ≡ r → LosesRows shape coming (row_of new ∷ []) (to_come r left) →
+    LosesRows inputs coming (row_of (take len (new ++ drop (length new) old)) ∷ []) (to_come s left)
+loses_row shape inputs len coming old new r s left same_shape whole same h =
+    let a = subst (λ (types : List Values). LosesRows types coming (row_of new ∷ []) (to_come r left)) same_shape h in
+    let b = subst (λ (row : List Cell). LosesRows inputs coming (row_of row ∷ []) (to_come r left)) (sym (written_back old new len whole)) a in
+    subst (λ (reader : Reading). LosesRows inputs coming (row_of (take len (new ++ drop (length new) old)) ∷ []) (to_come reader left)) (sym same) b
+
+-- the values of cells that hold values
+pub row_of_cells : (row : List ℕ) → row_of (cells_of row) ≡ row
+row_of_cells [] = refl
+row_of_cells (v ∷ row) = ap (λ vs. v ∷ vs) (row_of_cells row)
+
+pub loses_read : (shape : List Values) (coming rest : Option (List ℕ)) (line : List ℕ) (cells : List Cell) → LosesLine coming line rest → IsRow shape line cells → LosesRows shape coming (row_of cells ∷ []) rest
+loses_read shape coming rest line cells h (row, read, is) = loses_one shape coming rest line (row_of cells) h (read ∙ ap Ok (sym (ap row_of is ∙ row_of_cells row)))

@@ -1,10 +1,8 @@
 -- The outputs of a program are those of the program with its futures erased.
-use Rattle.std.proofs.Common.{◌≡◌, ℕ, ◌+◌, suc, List, [], ◌∷◌, ◌++◌, length, take, drop, map, Option, Some, None, sym, refl, ap, ◌∙◌, subst}
+use Rattle.std.proofs.Common.{◌≡◌, ℕ, ◌+◌, List, [], ◌∷◌, ◌++◌, length, take, drop, map, Option, Some, None, sym, refl, ap, ◌∙◌, subst}
 use Rattle.std.specs.Prelude.{IsSomeAnd}
 use Rattle.std.specs.Option.{option_map}
 use Rattle.ept_reader.specs.Served.{IsServed}
-use Rattle.hept_ast.specs.Texts.{names}
-use Rattle.hept_ast.specs.declared.tree.Decl.{Decl}
 use Rattle.hept_ast.specs.Scopes.{Text}
 use Rattle.hept_ast.specs.Settings.{no_marks, no_replies}
 use Rattle.hept_ast.specs.Outputs.{Outputs}
@@ -14,7 +12,8 @@ use Rattle.hept_ast.specs.Laws.{ErasedKeepsOutputs}
 use Rattle.hept_ast.specs.declared.tree.Node.{Node}
 use Rattle.hept_ast.specs.declared.tree.Program.{Program}
 use Rattle.hepasync_top.specs.Stepping.{GivesRows}
-use Rattle.hepasync_top.specs.Outputs.{ErasedOutputs, input_count, text_inputs, last_text, main_text, plain_setting}
+use Rattle.hepasync_top.specs.Outputs.{ErasedOutputs, input_shape, output_shape, inputs_shape, outputs_shape, last_text, main_text, plain_setting}
+use Rattle.step_objects.specs.Shapes.{shape_of}
 
 last_erased : (n : ℕ) (nodes : List Node) → last_text n (map erased_node nodes) ≡ option_map erased_text (last_text n nodes)
 last_erased n [] = refl
@@ -31,18 +30,17 @@ erased_outputs p rows outs law (node, one, outputs) =
     let main = subst (λ main. IsSomeAnd main (λ text. Outputs (plain_setting p) text rows outs)) (sym (ap (last_text 0) one)) outputs in
     subst (λ main. IsSomeAnd main (λ text. Outputs (plain_setting (erased p)) text rows outs)) (sym (last_erased 0 p.nodes)) (of_main p rows outs (main_text p) law main)
 
-front : (xs ys : List ℕ) → take (length xs) (xs ++ ys) ≡ xs
+front : {X : Type 0} (xs ys : List X) → take (length xs) (xs ++ ys) ≡ xs
 front [] ys = refl
 front (x ∷ xs) ys = ap (λ zs. x ∷ zs) (front xs ys)
 
 -- a slice of a list that was written whole
-pub written_back : (old new : List ℕ) (n : ℕ) → n ≡ length new → take n (new ++ drop (length new) old) ≡ new
+pub written_back : {X : Type 0} (old new : List X) (n : ℕ) → n ≡ length new → take n (new ++ drop (length new) old) ≡ new
 written_back old new n e = ap (λ k. take k (new ++ drop (length new) old)) e ∙ front new (drop (length new) old)
 
-names_length : (ds : List Decl) → length (names ds) ≡ length ds
-names_length [] = refl
-names_length (d ∷ ds) = ap suc (names_length ds)
+-- the shapes of the rows of a served program
+pub served_inputs : (p : Program) (served : IsServed p) → input_shape p ≡ shape_of p.types served.node.inputs
+served_inputs p served = ap (λ nodes. inputs_shape p.types (last_text 0 nodes)) served.one
 
--- how many inputs a served program has
-pub served_inputs : (p : Program) (served : IsServed p) → length served.node.inputs ≡ input_count p
-served_inputs p served = sym (names_length served.node.inputs) ∙ sym (ap (λ nodes. text_inputs (last_text 0 nodes)) served.one)
+pub served_outputs : (p : Program) (served : IsServed p) → output_shape p ≡ shape_of p.types served.node.outputs
+served_outputs p served = ap (λ nodes. outputs_shape p.types (last_text 0 nodes)) served.one

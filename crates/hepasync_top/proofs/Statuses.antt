@@ -13,9 +13,10 @@ use Rattle.hept_ast.specs.Erasure.{erased}
 use Rattle.hept_io.specs.Outside.{Files}
 use Rattle.hept_io.specs.Lines.{Reading, to_come, lines_of}
 use Rattle.hepasync_top.specs.End.{status_of, IsBefore}
-use Rattle.hepasync_top.specs.RowText.{row_text}
-use Rattle.hepasync_top.specs.OutputText.{output_text}
-use Rattle.hepasync_top.specs.Outputs.{ErasedOutputs, input_count, plain_setting, main_text}
+use Rattle.trace_io.specs.RowText.{row_text}
+use Rattle.trace_io.specs.OutputText.{output_text}
+use Rattle.step_objects.specs.declared.shape.Values.{Values}
+use Rattle.hepasync_top.specs.Outputs.{ErasedOutputs, input_shape, output_shape, plain_setting, main_text}
 use Rattle.hepasync_top.specs.Turns.{TakesRows, LosesRows, AtMost, NextIsBad, HasNext, EndsAfter, EndsInPart, RunEnds, ended, bad_row, limit_reached, read_fault, write_fault}
 use Rattle.hepasync_top.specs.Run.{IsProgramFile, Written, WrittenWhereTold, Runs, StopsBefore, HasNoneLeft, WritesOnlyAfterReading}
 use Rattle.hepasync_top.specs.declared.end.End.{End}
@@ -89,19 +90,19 @@ ends_at_end p limit trace held left now _ (limit_reached h) e = absurd (omega ar
 ends_at_end p limit trace held left now _ (read_fault h) e = absurd (omega arith)
 ends_at_end p limit trace held left now _ (write_fault h) e = absurd (omega arith)
 
-whole : (inputs : ℕ) (bytes rest : List ℕ) (rows : List (List ℕ)) → NoneOfNone → TakesRows inputs bytes rows rest → rest ≡ [] → map (row_text inputs) (lines_of bytes) ≡ map Ok rows
+whole : (inputs : List Values) (bytes rest : List ℕ) (rows : List (List ℕ)) → NoneOfNone → TakesRows inputs bytes rows rest → rest ≡ [] → map (row_text inputs) (lines_of bytes) ≡ map Ok rows
 whole inputs bytes rest rows none h e =
     ap (map (row_text inputs)) (h.cut ∙ ap (λ more. h.lines ++ lines_of more) e ∙ ap (λ ls. h.lines ++ ls) none ∙ append-nil h.lines) ∙ h.read
 
 told : (files : Files) (words : List (List ℕ)) (p : Program) (bytes before : List ℕ) (rest now : Option (List ℕ)) (rows outs : List (List ℕ)) → NoneOfNone → IsProgramFile files words p →
-    LosesRows (input_count p) (Some bytes) rows rest → ErasedOutputs p rows outs → Appends (Some before) now (output_text outs) → IsAtEnd rest → IsSomeAnd now (λ after. Written files words bytes before after)
+    LosesRows (input_shape p) (Some bytes) rows rest → ErasedOutputs p rows outs → Appends (Some before) now (output_text (output_shape p) outs) → IsAtEnd rest → IsSomeAnd now (λ after. Written files words bytes before after)
 told files words p bytes before None now rows outs none file read outputs written e = absurd read
 told files words p bytes before (Some rest) None rows outs none file read outputs written e = absurd written
 told files words p bytes before (Some rest) (Some after) rows outs none file read outputs written e = record {
   program = p;
   file = file;
   rows = rows;
-  read = whole (input_count p) bytes rest rows none read e;
+  read = whole (input_shape p) bytes rest rows none read e;
   outs = outs;
   outputs = outputs;
   written = written;
@@ -127,7 +128,7 @@ empty : (bytes : List ℕ) → length bytes ≤ 0 → bytes ≡ []
 empty [] l = refl
 empty (b ∷ bytes) l = absurd (omega arith)
 
-none_left : (inputs : ℕ) (trace rest left : Option (List ℕ)) (rows : List (List ℕ)) → LosesRows inputs trace rows rest → AtMost rest left → IsAtEnd rest → HasNoneLeft trace left
+none_left : (inputs : List Values) (trace rest left : Option (List ℕ)) (rows : List (List ℕ)) → LosesRows inputs trace rows rest → AtMost rest left → IsAtEnd rest → HasNoneLeft trace left
 none_left inputs None rest left rows read within e = tt
 none_left inputs (Some bytes) None left rows read within e = absurd read
 none_left inputs (Some bytes) (Some rest) None rows read within e = absurd within
@@ -136,13 +137,13 @@ none_left inputs (Some bytes) (Some rest) (Some left) rows read within e = ap So
 pub none_left_at_end : (limit : ℕ) (files : Option Files) (words : List (List ℕ)) (trace held left now : Option (List ℕ)) (status : ℕ) →
     Runs limit files words trace held left now status ⊎ StopsBefore trace held left now status → status ≡ 0 → HasNoneLeft trace left
 none_left_at_end limit files words trace held left now status h e =
-    ⊎_elim (λ r. let a = ends_at_end r.program limit trace held left now status r.ends e in none_left (input_count r.program) trace a.rest left a.rows a.counted.read a.within a.why)
+    ⊎_elim (λ r. let a = ends_at_end r.program limit trace held left now status r.ends e in none_left (input_shape r.program) trace a.rest left a.rows a.counted.read a.within a.why)
     (λ b. absurd (not_before trace held left now status b e)) h
 
 -- ---- nothing is written before some of the trace is read
 
 -- where the trace is as it was, no row counted
-none_counted : (inputs : ℕ) (bytes : List ℕ) (rest left : Option (List ℕ)) (rows : List (List ℕ)) → LosesRows inputs (Some bytes) rows rest → AtMost rest left → left ≡ Some bytes → length rows ≤ 0
+none_counted : (inputs : List Values) (bytes : List ℕ) (rest left : Option (List ℕ)) (rows : List (List ℕ)) → LosesRows inputs (Some bytes) rows rest → AtMost rest left → left ≡ Some bytes → length rows ≤ 0
 none_counted inputs bytes None left rows read within e = absurd read
 none_counted inputs bytes (Some rest) left rows read within e = let l : length bytes ≤ length rest = subst (AtMost (Some rest)) e within in omega (arith, read.shorter)
 
@@ -155,27 +156,27 @@ outs_of_main : (w : Setting) (main : Option Text) (rows outs : List (List ℕ)) 
 outs_of_main w None rows outs h l = absurd h
 outs_of_main w (Some text) rows outs h l = outs_of_none w rows text 0 rows outs h l
 
-same_text : (before : List ℕ) (now : Option (List ℕ)) (outs : List (List ℕ)) → Appends (Some before) now (output_text outs) → outs ≡ [] → now ≡ Some before
-same_text before None outs h e = absurd h
-same_text before (Some after) outs h e = ap Some (h ∙ ap (λ os. before ++ output_text os) e ∙ append-nil before)
+same_text : (shape : List Values) (before : List ℕ) (now : Option (List ℕ)) (outs : List (List ℕ)) → Appends (Some before) now (output_text shape outs) → outs ≡ [] → now ≡ Some before
+same_text shape before None outs h e = absurd h
+same_text shape before (Some after) outs h e = ap Some (h ∙ ap (λ os. before ++ output_text shape os) e ∙ append-nil before)
 
 after_rows : (p : Program) (trace held left now : Option (List ℕ)) (Why : ℕ → Option (List ℕ) → Type 0) → EndsAfter p trace held left now Why → WritesOnlyAfterReading trace left held now
 after_rows p None held left now Why h = tt
 after_rows p (Some bytes) None left now Why h = tt
 after_rows p (Some bytes) (Some before) left now Why h = λ e.
-    let n = none_counted (input_count p) bytes h.rest left h.rows h.counted.read h.within e in
-    same_text before now h.outs h.counted.written (outs_of_main (plain_setting (erased p)) (main_text (erased p)) h.rows h.outs h.counted.outputs n)
+    let n = none_counted (input_shape p) bytes h.rest left h.rows h.counted.read h.within e in
+    same_text (output_shape p) before now h.outs h.counted.written (outs_of_main (plain_setting (erased p)) (main_text (erased p)) h.rows h.outs h.counted.outputs n)
 
 after_part : (p : Program) (trace held left now : Option (List ℕ)) → EndsInPart p trace held left now → WritesOnlyAfterReading trace left held now
 after_part p None held left now h = tt
 after_part p (Some bytes) None left now h = tt
 after_part p (Some bytes) (Some before) left now h = λ e.
-    let n = none_counted (input_count p) bytes h.rest left (h.rows ++ h.row ∷ []) h.read h.within e in
+    let n = none_counted (input_shape p) bytes h.rest left (h.rows ++ h.row ∷ []) h.read h.within e in
     absurd (omega (arith, length-append h.rows (h.row ∷ [])))
 
 after_run : (p : Program) (limit : ℕ) (trace held left now : Option (List ℕ)) (status : ℕ) → RunEnds p limit trace held left now status → WritesOnlyAfterReading trace left held now
 after_run p limit trace held left now _ (ended h) = after_rows p trace held left now (λ n rest. IsAtEnd rest) h
-after_run p limit trace held left now _ (bad_row h) = after_rows p trace held left now (λ n rest. NextIsBad (input_count p) rest) h
+after_run p limit trace held left now _ (bad_row h) = after_rows p trace held left now (λ n rest. NextIsBad (input_shape p) rest) h
 after_run p limit trace held left now _ (limit_reached h) = after_rows p trace held left now (λ n rest. (n ≡ limit) × HasNext rest) h
 after_run p limit trace held left now _ (read_fault h) = after_rows p trace held left now (λ n rest. ⊤) h
 after_run p limit trace held left now _ (write_fault h) = after_part p trace held left now h

@@ -2,9 +2,7 @@ pub mod Terms
 pub mod Stepping
 pub mod End
 pub mod Machine
-pub mod OutputText
 pub mod Outputs
-pub mod RowText
 pub mod Run
 pub mod Turns
 pub mod Words

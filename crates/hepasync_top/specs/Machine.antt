@@ -1,11 +1,15 @@
 -- What is made before the trace is first read, and what its turns do.
-use Rattle.std.specs.Prelude.{◌≡◌, ℕ, ◌<◌, ◌^◌, false, List, [], ◌∷◌, ◌++◌, vec_len, Option, Result, Ok, Err, IfSome}
+use Rattle.std.specs.Prelude.{◌≡◌, ℕ, ◌<◌, ◌≤◌, ◌^◌, All, false, length, List, [], ◌∷◌, ◌++◌, vec_len, Option, Result, Ok, Err, IfSome}
 use Rattle.std.specs.Io.KnownBytes.{Appends, Keeps, IsAtEnd}
 use Rattle.hept_ast.specs.declared.tree.Program.{Program}
+use Rattle.step_objects.specs.declared.shape.Values.{Values}
+use Rattle.step_objects.specs.declared.shape.Values.TheVariants.{Numbers}
+use Rattle.step_objects.specs.declared.cell.Cell.{Cell}
 use Rattle.hept_io.specs.Outside.{Files}
 use Rattle.hept_io.specs.Lines.{Reading, to_come}
-use Rattle.hepasync_top.specs.OutputText.{row_line, AppendsPart}
-use Rattle.hepasync_top.specs.Outputs.{input_count}
+use Rattle.trace_io.specs.OutputText.{row_line, widest_row, AppendsPart}
+use Rattle.step_objects.specs.Shapes.{row_of}
+use Rattle.hepasync_top.specs.Outputs.{input_shape, output_shape}
 use Rattle.hepasync_top.specs.Run.{IsProgramFile}
 use Rattle.hepasync_top.specs.Stepping.{GivesRows, IsReady, Stands}
 use Rattle.hepasync_top.specs.Turns.{LosesRows, AtMost, NextIsBad, HasNext, RunEnds}
@@ -18,19 +22,24 @@ use Rattle.hepasync_top.specs.declared.end.End.TheVariants.{Ended, BadRow, Limit
 pub record CanTurn (m : Machine) : Type 0 where
   pub goes_on : m.reader.is_spent ≡ false
   pub ready : IsReady m.stepper
+  pub inputs : length m.inputs ≡ m.stepper.inputs
+  pub few : length m.inputs < 2 ^ 32
   pub row : vec_len m.row ≡ m.stepper.inputs
-  pub few : m.stepper.inputs < 2 ^ 32
+  pub outputs : length m.outputs ≡ m.stepper.outputs
+  pub numbers : All (λ values. values ≡ Numbers) m.outputs
   pub values : vec_len m.values ≡ m.stepper.outputs
-  pub writer : m.writer ≡ m.stepper.outputs
+  pub writer : widest_row m.outputs ≤ m.writer
 
 -- it has done the instants of these rows of a program, which have these outputs
 pub record HasDone (p : Program) (m : Machine) (rows outs : List (List ℕ)) : Type 0 where
   pub stands : Stands p rows m.stepper
   pub outputs : GivesRows p rows outs
+  pub input_shape : m.inputs ≡ input_shape p
+  pub output_shape : m.outputs ≡ output_shape p
 
 -- what a read of the next line into a row comes to
-abbrev pub ReadsRow : (inputs : ℕ) → Reading → (left : Option (List ℕ)) → Result (Unit {0}) End → Reading → (rest : Option (List ℕ)) → (row : List ℕ) → Type 0
-ReadsRow inputs old left (Ok u) new rest row = (new.is_spent ≡ false) × LosesRows inputs (to_come old left) (row ∷ []) (to_come new rest)
+abbrev pub ReadsRow : (inputs : List Values) → Reading → (left : Option (List ℕ)) → Result (Unit {0}) End → Reading → (rest : Option (List ℕ)) → (row : List Cell) → Type 0
+ReadsRow inputs old left (Ok u) new rest row = (new.is_spent ≡ false) × LosesRows inputs (to_come old left) (row_of row ∷ []) (to_come new rest)
 ReadsRow inputs old left (Err Ended) new rest row = IsAtEnd (to_come old left) × AtMost (to_come old left) rest
 ReadsRow inputs old left (Err BadRow) new rest row = NextIsBad inputs (to_come old left) × AtMost (to_come old left) rest
 ReadsRow inputs old left (Err ReadFault) new rest row = AtMost (to_come old left) rest
@@ -46,12 +55,12 @@ EndsHere coming other left = ⊥
 -- what a turn comes to, after some rows
 abbrev pub Turns : Program → (rows outs : List (List ℕ)) → (coming held : Option (List ℕ)) → Result (Unit {0}) End → Machine → (left now : Option (List ℕ)) → Type 0
 Turns p rows outs coming held (Ok u) m left now = (row out : List ℕ) × HasDone p m (rows ++ row ∷ []) (outs ++ out ∷ [])
-    × LosesRows (input_count p) coming (row ∷ []) (to_come m.reader left) × Appends held now (row_line out)
+    × LosesRows (input_shape p) coming (row ∷ []) (to_come m.reader left) × Appends held now (row_line (output_shape p) out)
 Turns p rows outs coming held (Err Ended) m left now = IsAtEnd coming × AtMost coming left × Keeps held now
-Turns p rows outs coming held (Err BadRow) m left now = NextIsBad (input_count p) coming × AtMost coming left × Keeps held now
+Turns p rows outs coming held (Err BadRow) m left now = NextIsBad (input_shape p) coming × AtMost coming left × Keeps held now
 Turns p rows outs coming held (Err ReadFault) m left now = AtMost coming left × Keeps held now
 Turns p rows outs coming held (Err WriteFault) m left now = (row out : List ℕ) × GivesRows p (rows ++ row ∷ []) (outs ++ out ∷ [])
-    × LosesRows (input_count p) coming (row ∷ []) (to_come m.reader left) × AppendsPart held now (row_line out)
+    × LosesRows (input_shape p) coming (row ∷ []) (to_come m.reader left) × AppendsPart held now (row_line (output_shape p) out)
 Turns p rows outs coming held (Err other) m left now = ⊥
 
 -- how the turns end, where at most `limit` rows may count

@@ -1,12 +1,15 @@
 -- The outputs of a program on rows.
-use Rattle.std.specs.Prelude.{ℕ, ◌+◌, List, [], ◌∷◌, length, Option, Some, None, IsSomeAnd}
-use Rattle.hept_ast.specs.Scopes.{Text, Written, inputs_of, outputs_of}
+use Rattle.std.specs.Prelude.{ℕ, ◌+◌, List, [], ◌∷◌, Option, Some, None, IsSomeAnd}
+use Rattle.hept_ast.specs.Scopes.{Text, Written, input_decls, output_decls}
 use Rattle.hept_ast.specs.Settings.{no_marks, no_replies, of_program}
 use Rattle.hept_ast.specs.Meaning.{Setting}
 use Rattle.hept_ast.specs.Outputs.{Outputs}
 use Rattle.hept_ast.specs.Erasure.{erased}
 use Rattle.hept_ast.specs.declared.tree.Node.{Node}
 use Rattle.hept_ast.specs.declared.tree.Program.{Program}
+use Rattle.hept_ast.specs.declared.tree.TypeDec.{TypeDec}
+use Rattle.step_objects.specs.declared.shape.Values.{Values}
+use Rattle.step_objects.specs.Shapes.{shape_of}
 
 -- the last node, the nodes being numbered from n
 abbrev pub last_text : ℕ → List Node → Option Text
@@ -18,20 +21,20 @@ last_text n (node ∷ next ∷ nodes) = last_text (n + 1) (next ∷ nodes)
 abbrev pub main_text : Program → Option Text
 main_text p = last_text 0 p.nodes
 
-abbrev pub text_inputs : Option Text → ℕ
-text_inputs None = 0
-text_inputs (Some text) = length (inputs_of text)
+abbrev pub inputs_shape : List TypeDec → Option Text → List Values
+inputs_shape types None = []
+inputs_shape types (Some text) = shape_of types (input_decls text)
 
-abbrev pub text_outputs : Option Text → ℕ
-text_outputs None = 0
-text_outputs (Some text) = length (outputs_of text)
+abbrev pub outputs_shape : List TypeDec → Option Text → List Values
+outputs_shape types None = []
+outputs_shape types (Some text) = shape_of types (output_decls text)
 
--- how many inputs and outputs the node that is run has
-abbrev pub input_count : Program → ℕ
-input_count p = text_inputs (main_text p)
+-- the values of the rows of inputs and outputs of the node that is run
+abbrev pub input_shape : Program → List Values
+input_shape p = inputs_shape p.types (main_text p)
 
-abbrev pub output_count : Program → ℕ
-output_count p = text_outputs (main_text p)
+abbrev pub output_shape : Program → List Values
+output_shape p = outputs_shape p.types (main_text p)
 
 -- all variables are on the base clock, no instant restarts the node, and calls give their own outputs
 abbrev pub plain_setting : Program → Setting

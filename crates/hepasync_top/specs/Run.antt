@@ -6,9 +6,9 @@ use Rattle.hept_io.specs.Outside.{Files, HasFile}
 use Rattle.hept_io.specs.Lines.{lines_of}
 use Rattle.hepasync_top.specs.Words.{file_of}
 use Rattle.hepasync_top.specs.End.{IsNotRead}
-use Rattle.hepasync_top.specs.RowText.{row_text}
-use Rattle.hepasync_top.specs.OutputText.{output_text}
-use Rattle.hepasync_top.specs.Outputs.{ErasedOutputs, input_count}
+use Rattle.trace_io.specs.RowText.{row_text}
+use Rattle.trace_io.specs.OutputText.{output_text}
+use Rattle.hepasync_top.specs.Outputs.{ErasedOutputs, input_shape, output_shape}
 use Rattle.ept_reader.specs.Spelling.{IsProgramText}
 use Rattle.hepasync_top.specs.Turns.{RunEnds}
 
@@ -27,10 +27,10 @@ pub record Written (files : Files) (words : List (List ℕ)) (trace before after
   pub program : Program
   pub file : IsProgramFile files words program
   pub rows : List (List ℕ)
-  pub read : map (row_text (input_count program)) (lines_of trace) ≡ map Ok rows
+  pub read : map (row_text (input_shape program)) (lines_of trace) ≡ map Ok rows
   pub outs : List (List ℕ)
   pub outputs : ErasedOutputs program rows outs
-  pub written : after ≡ before ++ output_text outs
+  pub written : after ≡ before ++ output_text (output_shape program) outs
 
 -- the same, where the store tells its files, and the trace and the output their bytes
 abbrev pub WrittenWhereTold : Option Files → List (List ℕ) → (trace before after : Option (List ℕ)) → Type 0

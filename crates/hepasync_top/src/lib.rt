@@ -4,8 +4,6 @@
 mod end;
 mod equations;
 mod machine;
-mod output_text;
-mod row_text;
 mod stepper;
 mod top;
 mod words;

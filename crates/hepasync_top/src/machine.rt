@@ -2,15 +2,16 @@
 ghost use Rattle.std.specs.Prelude.{◌≡◌, ℕ, ◌≤◌, ◌<◌, ◌^◌, false, List, ◌∷◌, ◌++◌, [], Err, length};
 ghost use Rattle.hept_io.specs.Lines.{to_come};
 ghost use Rattle.hept_io.specs.Outside.{Rose};
+ghost use Rattle.step_objects.specs.Shapes.{FitsShape, row_of};
 ghost use Rattle.hepasync_top.specs.Machine.{ReadsRow, EndsHere};
 
 use crate::end::End;
-use crate::output_text::RowWriter;
-use crate::row_text::read_row;
 use crate::stepper::Stepper;
 use hept_ast::{Memory, Program, meaning_laws};
 use hept_io::{LineFault, LineReader, Sink, Source};
 use std::alloc::Global;
+use step_objects::{Cell, Shape};
+use trace_io::{RowWriter, read_row};
 
 /// All that a run holds while it reads the trace.
 #[derive(Drop)]
@@ -18,8 +19,10 @@ pub(crate) struct Machine {
     stepper: Stepper,
     reader: LineReader,
     writer: RowWriter,
-    row: Vec<u32>,
-    values: Vec<u32>,
+    inputs: Shape,
+    row: Vec<Cell>,
+    outputs: Shape,
+    values: Vec<Cell>,
 }
 
 impl Machine {
@@ -38,21 +41,25 @@ impl Machine {
         ensures pending { IfOk result (λ m. m.reader.pending ≡ []) }
     {
         let stepper = Stepper::new(alloc, program)?;
-        let (inputs, outputs) = (stepper.inputs(), stepper.outputs());
-        if inputs.max(outputs) > u32::MAX as usize {
+        let node = &program.nodes.as_slice()[0];
+        let inputs = Shape::of(alloc, program, node.inputs.as_slice())?;
+        let outputs = Shape::of(alloc, program, node.outputs.as_slice())?;
+        let writer = RowWriter::new(alloc, &outputs)?;
+        if stepper.inputs() > u32::MAX as usize {
             return Err(Memory);
         }
-        let writer = RowWriter::new(alloc, outputs)?;
         match (
             LineReader::new(alloc),
-            vec![in alloc; 0; inputs],
-            vec![in alloc; 0; outputs],
+            vec![in alloc; Cell::Value(0); stepper.inputs()],
+            vec![in alloc; Cell::Value(0); stepper.outputs()],
         ) {
             (Ok(reader), Ok(row), Ok(values)) => Ok(Machine {
                 stepper,
                 reader,
                 writer,
+                inputs,
                 row,
+                outputs,
                 values,
             }),
             _ => Err(Memory),
@@ -65,7 +72,8 @@ impl Machine {
         ensures can { CanTurn self.new }
         ensures reader { self.new.reader ≡ self.old.reader }
         ensures done { (p : Program) (rows outs : List (List ℕ)) → HasDone p self.old rows outs →
-            HasDone p self.new (rows ++ self.old.row.items ∷ []) (outs ++ self.new.values.items ∷ []) }
+            HasDone p self.new (rows ++ row_of self.old.row.items ∷ []) (outs ++ row_of self.new.values.items ∷ []) }
+        ensures fits { FitsShape self.new.outputs self.new.values.items }
     {
         self.stepper
             .instant(self.row.as_slice(), self.values.as_mut_slice());
@@ -82,9 +90,10 @@ impl Machine {
         ensures reads { S.faults trace.old ≤ S.faults trace.new }
         ensures writes { K.faults out.old ≤ K.faults out.new }
     {
-        read_line(&mut self.reader, self.row.as_mut_slice(), trace)?;
+        let row = self.row.as_mut_slice();
+        read_line(&mut self.reader, &self.inputs, row, trace)?;
         self.step();
-        match self.writer.row(self.values.as_slice(), out) {
+        match self.writer.row(&self.outputs, self.values.as_slice(), out) {
             Ok(()) => Ok(()),
             Err(_) => Err(End::WriteFault),
         }
@@ -130,15 +139,21 @@ fn end_of_trace<S: Source>(reader: &mut LineReader, trace: &mut S) -> End
 }
 
 /// Reads the next line into a row.
-fn read_line<S: Source>(reader: &mut LineReader, row: &mut [u32], trace: &mut S) -> Result<(), End>
+fn read_line<S: Source>(
+    reader: &mut LineReader,
+    shape: &Shape,
+    row: &mut [Cell],
+    trace: &mut S,
+) -> Result<(), End>
     requires goes_on { reader.old.is_spent ≡ false }
-    requires few { length row.old < 2 ^ 32 }
-    ensures row { ReadsRow (length row.old) reader.old (S.left trace.old) result reader.new (S.left trace.new) row.new }
+    requires few { length shape.now < 2 ^ 32 }
+    requires row { length row.old ≡ length shape.now }
+    ensures row { ReadsRow shape.now reader.old (S.left trace.old) result reader.new (S.left trace.new) row.new }
     ensures cause { result ≡ Err End.ReadFault → Rose (S.faults trace.old) (S.faults trace.new) }
     ensures count { S.faults trace.old ≤ S.faults trace.new }
 {
     match reader.next(trace) {
-        Ok(Some(line)) => match read_row(line, row) {
+        Ok(Some(line)) => match read_row(shape, line, row) {
             Ok(()) => Ok(()),
             Err(_) => Err(End::BadRow),
         },

@@ -1,6 +1,8 @@
 ghost use Rattle.std.specs.Prelude.{◌≡◌, ℕ, ◌++◌, ◌∷◌, [], List, Some, None, All, EachIndex, IfOk, ◌≤◌, length, map, replicate, slice_index};
 ghost use Rattle.hept_ast.specs.declared.tree.Program.{Program};
 ghost use Rattle.ept_reader.specs.Served.{IsServed};
+ghost use Rattle.step_objects.specs.Shapes.{IsValueOf, row_of};
+ghost use Rattle.step_objects.specs.declared.shape.Values.TheVariants.{Numbers};
 ghost use Rattle.hepasync_top.specs.Terms.{IsInside, term_value};
 ghost use Rattle.hepasync_top.specs.Stepping.{
   GivesLast,
@@ -14,6 +16,7 @@ ghost use Rattle.hepasync_top.specs.Stepping.{
 use crate::equations::{Assignment, Term, compile_body, push, variables_of};
 use hept_ast::{Memory, Program};
 use std::alloc::Global;
+use step_objects::Cell;
 
 /// A program with what it keeps between two instants.
 #[derive(Drop)]
@@ -41,12 +44,22 @@ fn filled<T: Copy>(alloc: Global, item: T, count: usize) -> Result<Vec<T>, Memor
     Ok(all)
 }
 
-fn put_row(values: &mut [u32], row: &[u32])
+fn put_row(values: &mut [u32], row: &[Cell])
     requires { length row.now ≤ length values.old }
-    ensures { EachIndex row.now (λ k. slice_index values.new k ≡ slice_index row.now k) }
+    ensures { EachIndex (row_of row.now) (λ k. slice_index values.new k ≡ slice_index (row_of row.now) k) }
 {
-    for (i, value) in row.iter().enumerate() {
-        values[i] = *value;
+    for (i, cell) in row.iter().enumerate() {
+        values[i] = cell.value();
+    }
+}
+
+fn give_row(out: &mut [Cell], values: &[u32])
+    requires { length values.now ≡ length out.old }
+    ensures row { row_of out.new ≡ values.now }
+    ensures numbers { All (IsValueOf Numbers) out.new }
+{
+    for (i, value) in values.iter().enumerate() {
+        out[i] = Cell::Value(*value);
     }
 }
 
@@ -109,7 +122,7 @@ impl Stepper {
     }
 
     /// Steps the equations in the order of the text.
-    pub(crate) fn instant(&mut self, row: &[u32], out: &mut [u32])
+    pub(crate) fn instant(&mut self, row: &[Cell], out: &mut [Cell])
         requires ready { IsReady self.old }
         requires row { length row.now ≡ self.old.inputs }
         requires out { length out.old ≡ self.old.outputs }
@@ -117,9 +130,10 @@ impl Stepper {
         ensures inputs { self.new.inputs ≡ self.old.inputs }
         ensures outputs { self.new.outputs ≡ self.old.outputs }
         ensures steps { (p : Program) (rows : List (List ℕ)) → Stands p rows self.old →
-            GivesLast p rows row.now out.new × Stands p (rows ++ row.now ∷ []) self.new }
+            GivesLast p rows (row_of row.now) (row_of out.new) × Stands p (rows ++ row_of row.now ∷ []) self.new }
         ensures rows { (p : Program) (rows outs : List (List ℕ)) → Stands p rows self.old → GivesRows p rows outs →
-            GivesRows p (rows ++ row.now ∷ []) (outs ++ out.new ∷ []) }
+            GivesRows p (rows ++ row_of row.now ∷ []) (outs ++ row_of out.new ∷ []) }
+        ensures numbers { All (IsValueOf Numbers) out.new }
     {
         put_row(self.values.as_mut_slice(), row);
         assign(
@@ -137,6 +151,6 @@ impl Stepper {
             .as_mut_slice()
             .copy_from_slice(self.following.as_slice());
         let end = self.inputs + self.outputs;
-        out.copy_from_slice(&self.values[self.inputs..end]);
+        give_row(out, &self.values[self.inputs..end]);
     }
 }

@@ -43,6 +43,19 @@ IsCountable values = value_count values ≤ 2 ^ 32
 abbrev pub HasFewConstructors : TypeDec → Type 0
 HasFewConstructors d = length d.constructors < 2 ^ 32
 
+-- the value that is there, 0 where there is none yet
+abbrev pub value_in : Cell → ℕ
+value_in (Value v) = v
+value_in (Ready v) = v
+value_in (Held h) = 0
+
+-- the values of a row of cells, and the cells that hold a row of values
+abbrev pub row_of : List Cell → List ℕ
+row_of cells = map value_in cells
+
+abbrev pub cells_of : List ℕ → List Cell
+cells_of row = map Value row
+
 -- the cell holds a value of these
 abbrev pub IsValueOf : Values → Cell → Type 0
 IsValueOf values (Value v) = v < value_count values

@@ -1,3 +1,6 @@
+ghost use Rattle.std.specs.Prelude.{◌≡◌};
+ghost use Rattle.step_objects.specs.Shapes.{value_in};
+
 /// An output of a call: the slot where its value will stand, which of the call's outputs it is, and
 /// the generation in which the slot was given to the call.
 #[derive(Clone, Copy, Debug, PartialEq, Eq)]
@@ -16,4 +19,16 @@ pub enum Cell {
     Ready(u32),
     /// A future in a slot.
     Held(Handle),
+}
+
+impl Cell {
+    /// The value that is there, 0 where there is none yet.
+    pub fn value(self) -> u32
+        ensures { result ≡ value_in self }
+    {
+        match self {
+            Cell::Value(value) | Cell::Ready(value) => value,
+            Cell::Held(_) => 0,
+        }
+    }
 }

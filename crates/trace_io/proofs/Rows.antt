@@ -5,7 +5,8 @@ use Rattle.std.proofs.lemmas.List.{take_all, take_more_set, map-append, append-n
 use Rattle.step_objects.specs.declared.shape.Values.{Values}
 use Rattle.step_objects.specs.declared.cell.Cell.{Cell}
 use Rattle.step_objects.specs.declared.cell.Cell.TheVariants.{Value}
-use Rattle.trace_io.specs.RowText.{IsRow, is_blank, Word, word_at, words_from, word_value, with_value, row_from, row_text, cells_of}
+use Rattle.step_objects.specs.Shapes.{cells_of}
+use Rattle.trace_io.specs.RowText.{IsRow, is_blank, Word, word_at, words_from, word_value, with_value, row_from, row_text}
 use Rattle.trace_io.specs.declared.row_text.RowFault.{RowFault}
 use Rattle.trace_io.specs.declared.row_text.RowFault.TheVariants.{TooFew, TooMany, BadValue}
 use Rattle.trace_io.proofs.LineWords.{begins_there}

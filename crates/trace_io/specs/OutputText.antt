@@ -1,27 +1,16 @@
 -- The text of rows of output values.
-use Rattle.std.specs.Prelude.{ℕ, ◌+◌, ◌==◌, if◌then◌else◌, ◌<◌, List, [], ◌∷◌, ◌++◌, map, length, take, max, slice_index_or, Option, codes}
+use Rattle.std.specs.Prelude.{ℕ, ◌+◌, ◌==◌, if◌then◌else◌, ◌<◌, List, [], ◌∷◌, ◌++◌, length, take, max, slice_index_or, Option, codes}
 use Rattle.std.specs.List.{join_with_byte, flat_map}
 use Rattle.std.specs.Fmt.{signed_decimal}
 use Rattle.std.specs.Io.KnownBytes.{Appends}
 use Rattle.hept_ast.specs.Values.{number_of}
 use Rattle.step_objects.specs.declared.shape.Values.{Values}
 use Rattle.step_objects.specs.declared.shape.Values.TheVariants.{Numbers, Truths, Constructors}
-use Rattle.step_objects.specs.declared.cell.Cell.{Cell}
-use Rattle.step_objects.specs.declared.cell.Cell.TheVariants.{Value, Ready, Held}
 
 abbrev pub value_text : Values → ℕ → List ℕ
 value_text Numbers v = signed_decimal (number_of v)
 value_text Truths v = if v == 0 then codes "false" else codes "true"
 value_text (Constructors names) v = slice_index_or names v []
-
--- the value that a cell holds
-abbrev pub value_in : Cell → ℕ
-value_in (Value v) = v
-value_in (Ready v) = v
-value_in (Held h) = 0
-
-abbrev pub row_of : List Cell → List ℕ
-row_of cells = map value_in cells
 
 -- the texts of a row's values
 abbrev pub value_texts : List Values → List ℕ → List (List ℕ)

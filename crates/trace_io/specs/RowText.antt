@@ -1,5 +1,5 @@
 -- The row that a line of a trace spells, or the first fault in it.
-use Rattle.std.specs.Prelude.{◌≡◌, ℕ, ◌+◌, ◌-◌, ◌%◌, ◌^◌, Bool, ◌||◌, ◌&&◌, if◌then◌else◌, ◌==◌, nat_le, List, [], ◌∷◌, drop, map, Option, Some, None, Result, Ok, Err, codes}
+use Rattle.std.specs.Prelude.{◌≡◌, ℕ, ◌+◌, ◌-◌, ◌%◌, ◌^◌, Bool, ◌||◌, ◌&&◌, if◌then◌else◌, ◌==◌, nat_le, List, [], ◌∷◌, drop, Option, Some, None, Result, Ok, Err, codes}
 use Rattle.std.specs.List.{list_all}
 use Rattle.std.specs.Char.{is_ascii_digit}
 use Rattle.std.specs.Str.{bytes_eq}
@@ -8,7 +8,7 @@ use Rattle.hept_ast.specs.Texts.{Name, is_in, place_in}
 use Rattle.step_objects.specs.declared.shape.Values.{Values}
 use Rattle.step_objects.specs.declared.shape.Values.TheVariants.{Numbers, Truths, Constructors}
 use Rattle.step_objects.specs.declared.cell.Cell.{Cell}
-use Rattle.step_objects.specs.declared.cell.Cell.TheVariants.{Value}
+use Rattle.step_objects.specs.Shapes.{cells_of}
 use Rattle.trace_io.specs.declared.row_text.RowFault.{RowFault}
 use Rattle.trace_io.specs.declared.row_text.RowFault.TheVariants.{TooFew, TooMany, BadValue}
 
@@ -82,10 +82,6 @@ row_from (t ∷ ts) kept (w ∷ ws) = with_value w (word_value t w.bytes) (row_f
 -- the row that a line spells
 abbrev pub row_text : (shape : List Values) → (line : List ℕ) → Result (List ℕ) RowFault
 row_text shape line = row_from shape 0 (words_from 0 line)
-
--- the cells that hold a row of values
-abbrev pub cells_of : List ℕ → List Cell
-cells_of row = map Value row
 
 -- the cells hold the row that the line spells
 abbrev pub IsRow : (shape : List Values) → (line : List ℕ) → List Cell → Type 0

@@ -2,8 +2,8 @@
 ghost use Rattle.std.specs.Prelude.{◌≡◌, ◌+◌, ◌<◌, ◌≤◌, length, IfOk, IfSome, OnOk, OnErr, vec_capacity, vec_len, ◌++◌, if◌then◌else◌, [], ◌∷◌};
 ghost use Rattle.std.specs.Io.KnownBytes.{Appends};
 ghost use Rattle.hept_io.specs.Outside.{Rose};
-ghost use Rattle.step_objects.specs.Shapes.{FitsShape, value_count};
-ghost use Rattle.trace_io.specs.OutputText.{AppendsPart, longest, row_line, row_of, value_in, value_text, widest, widest_row};
+ghost use Rattle.step_objects.specs.Shapes.{FitsShape, row_of, value_count};
+ghost use Rattle.trace_io.specs.OutputText.{AppendsPart, longest, row_line, value_text, widest, widest_row};
 
 use hept_ast::{Memory, Name};
 use hept_io::{Failed, Sink};
@@ -93,16 +93,6 @@ fn widest_row(shape: &[Values]) -> Option<usize>
     Some(room)
 }
 
-fn value_in(cell: Cell) -> u32
-    ensures { result ≡ value_in cell }
-{
-    match cell {
-        Cell::Value(value) => value,
-        Cell::Ready(value) => value,
-        Cell::Held(_) => 0,
-    }
-}
-
 /// Puts the text of a row in place of what the buffer holds.
 fn put_row(text: &mut Vec<u8>, shape: &[Values], cells: &[Cell])
     requires room { widest_row shape.now ≤ vec_capacity text.old }
@@ -112,7 +102,7 @@ fn put_row(text: &mut Vec<u8>, shape: &[Values], cells: &[Cell])
 {
     text.clear();
     for (k, values) in shape.iter().enumerate() {
-        put_value(text, k == 0, values, value_in(cells[k]));
+        put_value(text, k == 0, values, cells[k].value());
     }
     text.push(b'\n').unwrap();
 }

@@ -1,5 +1,6 @@
 use Rattle.std.proofs.Common.{◌≡◌, ℕ, ◌<◌, slice_index}
+use Rattle.step_objects.specs.Shapes.{row_of}
 use Rattle.hepasync_top.proofs.stepper.put_row.Given as goal
 
 abbrev pub invariant-loop-i : goal.invariant-loop-i
-invariant-loop-i l = (k : ℕ) → k < l.i → slice_index l.values k ≡ slice_index l.row k
+invariant-loop-i l = (k : ℕ) → k < l.i → slice_index l.values k ≡ slice_index (row_of l.row) k

@@ -9,12 +9,12 @@ bounds-cells-k c = omega (arith, fits_length c.args.shape.now c.args.cells.now c
 
 -- src/output_text.rt:115:9
 pub put_value-requires-clause-value : goal.put_value-requires-clause-value
-put_value-requires-clause-value c = value_fits c.args.shape.now c.args.cells.now c.loop-k.k c.index-shape-k.result _ c.value_in.result c.requires.fits c.loop-k-test.true c.index-shape-k.is c.value_in.ensures
+put_value-requires-clause-value c = value_fits c.args.shape.now c.args.cells.now c.loop-k.k c.index-shape-k.result _ c.value.result c.requires.fits c.loop-k-test.true c.index-shape-k.is c.value.ensures
 
 -- src/output_text.rt:114:5
 pub loop-k-preserved : goal.loop-k-preserved
 loop-k-preserved c = (
-  one_more c.args.shape.now c.args.cells.now c.loop-k.k c.index-shape-k.result _ c.value_in.result c.loop-k.text.items c.put_value.new.text.items c.requires.fits c.loop-k-test.true c.index-shape-k.is c.value_in.ensures c.loop-k.invariant.0 c.put_value.ensures.text,
+  one_more c.args.shape.now c.args.cells.now c.loop-k.k c.index-shape-k.result _ c.value.result c.loop-k.text.items c.put_value.new.text.items c.requires.fits c.loop-k-test.true c.index-shape-k.is c.value.ensures c.loop-k.invariant.0 c.put_value.ensures.text,
   room_kept c.args.shape.now c.loop-k.k c.index-shape-k.result (vec_len c.put_value.new.text) (vec_len c.loop-k.text) c.loop-k-test.true c.index-shape-k.is c.put_value.ensures.len c.loop-k.invariant.1,
   omega (arith, c.loop-k.invariant.2, c.put_value.ensures.capacity),
 )

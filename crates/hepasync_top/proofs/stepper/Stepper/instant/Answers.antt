@@ -7,6 +7,8 @@ use Rattle.hepasync_top.specs.declared.equations.Assignment.{Assignment}
 use Rattle.hepasync_top.specs.Terms.{declared_names, term_value}
 use Rattle.hepasync_top.specs.Stepping.{AreKnown, MakesKnown}
 use Rattle.hepasync_top.proofs.AtInstant.{makes_at, known_after, rewritten, as_many, ready_with, outputs_have, cells_after}
+use Rattle.step_objects.specs.Shapes.{row_of}
+use Rattle.hepasync_top.proofs.Cells.{row_length}
 use Rattle.hepasync_top.proofs.RowByRow.{more_rows}
 use Rattle.hepasync_top.proofs.stepper.Stepper.instant.Goals as goal
 
@@ -18,7 +20,7 @@ returns-clause-steps c = λ p rows h.
     let cells : List (Option ℕ) = c.args.self.now.cells.items in
     let old : List ℕ = c.put_row.new.values in
     let new : List ℕ = c.assign.new.values in
-    let row : List ℕ = c.args.row.now in
+    let row : List ℕ = row_of c.args.row.now in
     let same_equations : c.as_slice.result.now ≡ qs = c.as_slice.ensures.value in
     let same_cells : c.as_slice-2.result.now ≡ cells = c.as_slice-2.ensures.value in
     let as_wide : length old ≡ length c.args.self.now.values.items = search rules in
@@ -29,9 +31,9 @@ returns-clause-steps c = λ p rows h.
     let made : MakesKnown qs cells old new =
     makes_at qs c.as_slice.result.now cells c.as_slice-2.result.now old c.as_mut_slice-2.result.now new same_equations same_cells same_values c.assign.ensures in
     let known : AreKnown p node (rows ++ row ∷ []) (length rows) (declared_names node) new =
-    known_after p h.served rows row next qs cells old new (c.requires.row ∙ h.inputs) c.put_row.ensures (as_wide ∙ h.values) h.cells h.equations made in
-    let taken : c.copy_from_slice-2.new.self ≡ slice_range new c.args.self.now.inputs (c.args.self.now.inputs + c.args.self.now.outputs) =
-    c.copy_from_slice-2.ensures.after ∙ ap (λ (vs : List ℕ). slice_range vs c.args.self.now.inputs (c.args.self.now.inputs + c.args.self.now.outputs))
+    known_after p h.served rows row next qs cells old new (row_length c.args.row.now ∙ c.requires.row ∙ h.inputs) c.put_row.ensures (as_wide ∙ h.values) h.cells h.equations made in
+    let taken : row_of c.give_row.new.out ≡ slice_range new c.args.self.now.inputs (c.args.self.now.inputs + c.args.self.now.outputs) =
+    c.give_row.ensures.row ∙ ap (λ (vs : List ℕ). slice_range vs c.args.self.now.inputs (c.args.self.now.inputs + c.args.self.now.outputs))
     (c.deref.ensures.value ∙ all_new) in
     let kept : List (Option ℕ) = c.copy_from_slice.new.self in
     let remembered : List (Option ℕ) = c.remember.new.following in
@@ -48,7 +50,7 @@ returns-clause-steps c = λ p rows h.
       (
         node,
         h.served.one,
-        outputs_have p node (rows ++ row ∷ []) (length rows) c.args.self.now.inputs (c.args.self.now.inputs + c.args.self.now.outputs) new c.copy_from_slice-2.new.self
+        outputs_have p node (rows ++ row ∷ []) (length rows) c.args.self.now.inputs (c.args.self.now.inputs + c.args.self.now.outputs) new (row_of c.give_row.new.out)
             known (newly_wide ∙ as_wide ∙ h.values) h.inputs (ap (λ n. c.args.self.now.inputs + n) h.outputs) taken,
       ),
       record {
@@ -66,4 +68,4 @@ returns-clause-steps c = λ p rows h.
 
 pub returns-clause-rows : goal.returns-clause-rows
 returns-clause-rows c = λ p rows outs h g.
-    more_rows p rows outs c.args.row.now c.copy_from_slice-2.new.self g (returns-clause-steps c p rows h).0
+    more_rows p rows outs (row_of c.args.row.now) (row_of c.give_row.new.out) g (returns-clause-steps c p rows h).0
