@@ -1,21 +1,22 @@
 -- What stands in the text of a node, and that a path names one call.
-use Rattle.std.specs.Prelude.{◌≡◌, ℕ, true, List, [], ◌∷◌, Some, map}
+use Rattle.std.specs.Prelude.{◌≡◌, ℕ, true, List, [], ◌∷◌, Some, map, slice_get}
 use Rattle.hept_ast.specs.Texts.{Name, is_in}
 use Rattle.hept_ast.specs.Scopes.{Clock, Text, Scope, Top, Called, In_branch, In_body, In_state, Under, Written, Lowered, text_of}
 use Rattle.hept_ast.specs.Meaning.{Setting, clock_seen, call_of}
 use Rattle.hept_ast.specs.Sites.{Piece, path_of, Expression, Statement, Body, Site, Sites, expressions, form_pieces, clock_of_left, pieces}
-use Rattle.hept_ast.specs.Settings.{Marks, Replies, of_core}
+use Rattle.hept_ast.specs.Settings.{Marks, Replies, of_program, of_core}
 use Rattle.hept_ast.specs.OwnReplies.{PathsTell}
 use Rattle.hept_ast.specs.declared.name.Place.{Place}
 use Rattle.hept_ast.specs.declared.tree.Expr.{Expr}
 use Rattle.hept_ast.specs.declared.tree.MergeBranch.{MergeBranch}
 use Rattle.hept_ast.specs.declared.tree.Form.{Form, out-Form}
 use Rattle.hept_ast.specs.declared.tree.Form.TheOpen.{Form-F}
-use Rattle.hept_ast.specs.CallPlaces.{text_places}
+use Rattle.hept_ast.specs.CallPlaces.{block_places, text_places}
 use Rattle.hept_ast.specs.declared.tree.Block.{Block}
 use Rattle.hept_ast.specs.declared.tree.Branch.{Branch}
 use Rattle.hept_ast.specs.declared.tree.State.{State}
 use Rattle.hept_ast.specs.declared.tree.Node.{Node}
+use Rattle.hept_ast.specs.declared.tree.Program.{Program}
 use Rattle.hept_ast.specs.declared.tree.Core.{Core}
 use Rattle.hept_ast.specs.declared.tree.CoreNode.{CoreNode}
 use Rattle.hept_ast.specs.declared.tree.Equation.{Equation, out-Equation}
@@ -101,3 +102,15 @@ PathsDiffer = (w : Setting) (text : Text) (sites : List Site) → LeftsAgree w t
 -- a core's equations have clocks of their own
 abbrev pub CoreLeftsAgree : Type 0
 CoreLeftsAgree = (core : Core) (marked : Marks) (replies : Replies) (node : CoreNode) → LeftsAgree (of_core core marked replies) (Lowered node)
+
+-- in a program no two calls of a node's text have one place, where they have none in each node
+abbrev pub ProgramPlacesDiffer : Type 0
+ProgramPlacesDiffer = (p : Program) (clock : ℕ → Name → Clock) (marked : Marks) (replies : Replies) (k : ℕ) (node : Node) →
+    ((i : ℕ) (other : Node) → slice_get p.nodes i ≡ Some other → AllDiffer (block_places other.block)) → slice_get p.nodes k ≡ Some node →
+    PlacesDiffer (of_program p clock marked replies) (Written k node)
+
+-- and in a core
+abbrev pub CorePlacesDiffer : Type 0
+CorePlacesDiffer = (core : Core) (marked : Marks) (replies : Replies) (k : ℕ) (node : CoreNode) →
+    ((i : ℕ) (other : CoreNode) → slice_get core.nodes i ≡ Some other → AllDiffer (text_places (Lowered other))) → slice_get core.nodes k ≡ Some node →
+    PlacesDiffer (of_core core marked replies) (Lowered node)

@@ -1,3 +1,4 @@
+use Rattle.hept_ast.proofs.PlacesOfNodes.{core_places_differ, program_places_differ}
 use Rattle.hept_ast.proofs.CoreFrames.{core_lefts_agree}
 use Rattle.hept_ast.proofs.CallPlacesOf.{places_tell_calls}
 use Rattle.hept_ast.proofs.PathsApart.{paths_differ}
@@ -19,3 +20,9 @@ returns-clause-one_size c = one_expanded_size
 
 pub returns-clause-core_lefts : goal.returns-clause-core_lefts
 returns-clause-core_lefts c = core_lefts_agree
+
+pub returns-clause-program_places : goal.returns-clause-program_places
+returns-clause-program_places c = program_places_differ
+
+pub returns-clause-core_places : goal.returns-clause-core_places
+returns-clause-core_places c = core_places_differ
