@@ -1,10 +1,11 @@
 -- Rows of values in cells.
 use Rattle.std.proofs.Common.{◌≡◌, ℕ, ◌+◌, ◌^◌, ◌<◌, suc, zero, List, [], ◌∷◌, ◌++◌, length, take, set, get_or, refl, sym, ap, ◌∙◌, arith}
 use Rattle.std.proofs.lemmas.List.{length-map, take_more, take_more_set}
-use Rattle.step_objects.specs.declared.cell.Cell.{Cell}
-use Rattle.step_objects.specs.declared.cell.Cell.TheVariants.{Value}
+use Rattle.step_cells.specs.declared.cell.Cell.{Cell}
+use Rattle.step_cells.specs.declared.cell.Cell.TheVariants.{Value}
 use Rattle.step_objects.specs.declared.shape.Values.TheVariants.{Numbers}
-use Rattle.step_objects.specs.Shapes.{IsValueOf, row_of, value_in}
+use Rattle.step_objects.specs.Shapes.{IsValueOf}
+use Rattle.step_cells.specs.Cells.{row_of, value_in}
 
 pub row_length : (cells : List Cell) → length (row_of cells) ≡ length cells
 row_length cells = length-map cells value_in

@@ -11,7 +11,7 @@ use Rattle.hept_ast.specs.Types.{is_plain, type_is_known}
 use Rattle.ept_reader.specs.Served.{IsInteger}
 use Rattle.step_objects.specs.declared.shape.Values.{Values}
 use Rattle.step_objects.specs.declared.shape.Values.TheVariants.{Numbers}
-use Rattle.step_objects.specs.declared.cell.Cell.{Cell}
+use Rattle.step_cells.specs.declared.cell.Cell.{Cell}
 use Rattle.step_objects.specs.Shapes.{FitsShape, IsValueOf, is_declared_plain, shape_of, values_of}
 
 -- ---- parts of the list of what is declared

@@ -7,8 +7,8 @@ use Rattle.std.specs.Borrow.{Bor}
 use Rattle.std.proofs.lemmas.List.{map-append}
 use Rattle.hepasync_top.proofs.NextOutputs.{written_back}
 use Rattle.step_objects.specs.declared.shape.Values.{Values}
-use Rattle.step_objects.specs.declared.cell.Cell.{Cell}
-use Rattle.step_objects.specs.Shapes.{cells_of, row_of}
+use Rattle.step_cells.specs.declared.cell.Cell.{Cell}
+use Rattle.step_cells.specs.Cells.{cells_of, row_of}
 use Rattle.trace_io.specs.RowText.{IsRow, row_text}
 use Rattle.hepasync_top.specs.Turns.{TakesRows, LosesRows, AtMost, NextIsBad}
 use Rattle.trace_io.specs.declared.row_text.RowFault.{RowFault}

@@ -4,11 +4,11 @@ use Rattle.std.specs.Io.KnownBytes.{Appends, Keeps, IsAtEnd}
 use Rattle.hept_ast.specs.declared.tree.Program.{Program}
 use Rattle.step_objects.specs.declared.shape.Values.{Values}
 use Rattle.step_objects.specs.declared.shape.Values.TheVariants.{Numbers}
-use Rattle.step_objects.specs.declared.cell.Cell.{Cell}
+use Rattle.step_cells.specs.declared.cell.Cell.{Cell}
 use Rattle.hept_io.specs.Outside.{Files}
 use Rattle.hept_io.specs.Lines.{Reading, to_come}
 use Rattle.trace_io.specs.OutputText.{row_line, widest_row, AppendsPart}
-use Rattle.step_objects.specs.Shapes.{row_of}
+use Rattle.step_cells.specs.Cells.{row_of}
 use Rattle.hepasync_top.specs.Outputs.{input_shape, output_shape}
 use Rattle.hepasync_top.specs.Run.{IsProgramFile}
 use Rattle.hepasync_top.specs.Stepping.{GivesRows, IsReady, Stands}

@@ -2,7 +2,8 @@
 ghost use Rattle.std.specs.Prelude.{◌≡◌, ℕ, ◌≤◌, ◌<◌, ◌^◌, false, List, ◌∷◌, ◌++◌, [], Err, length};
 ghost use Rattle.hept_io.specs.Lines.{to_come};
 ghost use Rattle.hept_io.specs.Outside.{Rose};
-ghost use Rattle.step_objects.specs.Shapes.{FitsShape, row_of};
+ghost use Rattle.step_objects.specs.Shapes.{FitsShape};
+ghost use Rattle.step_cells.specs.Cells.{row_of};
 ghost use Rattle.hepasync_top.specs.Machine.{ReadsRow, EndsHere};
 
 use crate::end::End;

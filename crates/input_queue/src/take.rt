@@ -11,7 +11,7 @@ ghost use Rattle.station_rule.specs.Seats.{IsSeatOf, IsSameSeat, IsServer, IsTak
 ghost use Rattle.input_queue.specs.Answers.{TakeIs, turn_look, tail_look};
 ghost use Rattle.input_queue.specs.Taking.{HasTaken};
 
-use station_rule::{Cell, Job, Meaning, Server, Site, Station};
+use station_rule::{Job, Meaning, Server, Site, Station, of_words};
 use std::alloc::Allocator;
 
 pub enum Take<M> {
@@ -43,7 +43,7 @@ fn read_all<M, N: Meaning<M>, A: Allocator>(
         let value_place = site.word(done, 2 * index + 2);
         let kind = station.read(&mut server.seat, site, kind_place);
         let value = station.read(&mut server.seat, site, value_place);
-        server.push_input(Cell::of_words(kind, value));
+        server.push_input(of_words(kind, value));
     }
     head
 }

@@ -3,7 +3,7 @@ use mathlib.Core.Option.{some, some-ne-none}
 use lib.ListN.{get_elem?}
 use Rattle.station_rule.specs.declared.view.Sent.{Sent}
 use Rattle.station_rule.specs.declared.view.Entry.{Entry}
-use Rattle.station_rule.specs.declared.cell.Cell.{Cell}
+use Rattle.step_cells.specs.declared.cell.Cell.{Cell}
 use Rattle.station_rule.specs.declared.job.Slot.{Slot}
 use Rattle.station_rule.specs.Book.{is_of, has_slot, calls, slot_of, cell_slot, EachHandle, IsUnnamed, IsLive}
 use Rattle.station_rule.specs.Cells.{EachHeld, reset_mark}

@@ -5,7 +5,7 @@ ghost use mathlib.Core.Option.{some};
 ghost use lib.ListN.{get_elem?};
 ghost use Rattle.station_rule.specs.Book.{sents, slot_of, gen_of};
 ghost use Rattle.station_rule.specs.Cells.{input_of, EachHeld, IsInput};
-ghost use Rattle.station_rule.specs.declared.cell.Cell.TheVariants.{Held};
+ghost use Rattle.step_cells.specs.declared.cell.Cell.TheVariants.{Held};
 ghost use Rattle.atomic_table.specs.Table.{rest};
 ghost use Rattle.station_example.specs.Total.{StandsFor, outputs};
 ghost use Rattle.station_rule.specs.Seats.{IsSeatOf, IsSameSeat, IsServer, IsIdle, IsTaken, HasInstance};

@@ -9,8 +9,8 @@ use Rattle.hept_ast.specs.declared.tree.Plain.{Plain}
 use Rattle.hept_ast.specs.declared.tree.Plain.TheVariants.{Int, Bool as Truth, Named}
 use Rattle.step_objects.specs.declared.shape.Values.{Values}
 use Rattle.step_objects.specs.declared.shape.Values.TheVariants.{Numbers, Truths, Constructors}
-use Rattle.step_objects.specs.declared.cell.Cell.{Cell}
-use Rattle.step_objects.specs.declared.cell.Cell.TheVariants.{Value, Ready, Held}
+use Rattle.step_cells.specs.declared.cell.Cell.{Cell}
+use Rattle.step_cells.specs.declared.cell.Cell.TheVariants.{Value, Ready, Held}
 
 -- a declaration of a plain type that is declared
 abbrev pub is_declared_plain : List TypeDec → Decl → Bool
@@ -42,19 +42,6 @@ IsCountable values = value_count values ≤ 2 ^ 32
 -- the lists of constructors of all types have fewer than 2 ^ 32 elements
 abbrev pub HasFewConstructors : TypeDec → Type 0
 HasFewConstructors d = length d.constructors < 2 ^ 32
-
--- the value that is there, 0 where there is none yet
-abbrev pub value_in : Cell → ℕ
-value_in (Value v) = v
-value_in (Ready v) = v
-value_in (Held h) = 0
-
--- the values of a row of cells, and the cells that hold a row of values
-abbrev pub row_of : List Cell → List ℕ
-row_of cells = map value_in cells
-
-abbrev pub cells_of : List ℕ → List Cell
-cells_of row = map Value row
 
 -- the cell holds a value of these
 abbrev pub IsValueOf : Values → Cell → Type 0

@@ -1,8 +1,7 @@
 //! What the steps of a program work on: cells, and the shapes of the rows that they stand in.
 #![tactic(auto)]
 
-mod cell;
 mod shape;
 
-pub use cell::{Cell, Handle};
 pub use shape::{Shape, Values};
+pub use step_cells::{Cell, Handle};

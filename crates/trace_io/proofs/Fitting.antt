@@ -9,9 +9,9 @@ use Rattle.std.proofs.lemmas.Bool.Decides.{nat_tests}
 use Rattle.hept_ast.specs.Texts.{Name, same, is_in, place_in}
 use Rattle.step_objects.specs.declared.shape.Values.{Values}
 use Rattle.step_objects.specs.declared.shape.Values.TheVariants.{Numbers, Truths, Constructors}
-use Rattle.step_objects.specs.declared.cell.Cell.{Cell}
+use Rattle.step_cells.specs.declared.cell.Cell.{Cell}
 use Rattle.step_objects.specs.Shapes.{FitsShape, value_count}
-use Rattle.step_objects.specs.Shapes.{cells_of}
+use Rattle.step_cells.specs.Cells.{cells_of}
 use Rattle.trace_io.specs.RowText.{IsRow, Word, words_from, magnitude, negated, number_text, truth_text, position_of, word_value, with_value, row_from}
 use Rattle.trace_io.specs.declared.row_text.RowFault.{RowFault}
 

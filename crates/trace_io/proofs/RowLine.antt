@@ -5,9 +5,10 @@ use Rattle.std.proofs.lemmas.List.{take_more, take_all}
 use Rattle.std.proofs.lemmas.Bool.Decides.{nat_tests}
 use Rattle.step_objects.specs.declared.shape.Values.{Values}
 use Rattle.step_objects.specs.declared.shape.Values.TheVariants.{Constructors}
-use Rattle.step_objects.specs.declared.cell.Cell.{Cell}
-use Rattle.step_objects.specs.declared.cell.Cell.TheVariants.{Value, Ready, Held}
-use Rattle.step_objects.specs.Shapes.{FitsShape, IsValueOf, row_of, value_count, value_in}
+use Rattle.step_cells.specs.declared.cell.Cell.{Cell}
+use Rattle.step_cells.specs.declared.cell.Cell.TheVariants.{Value, Ready, Held}
+use Rattle.step_objects.specs.Shapes.{FitsShape, IsValueOf, value_count}
+use Rattle.step_cells.specs.Cells.{row_of, value_in}
 use Rattle.trace_io.specs.OutputText.{value_text, value_texts, row_line, longest, widest, widest_row}
 
 -- the byte between texts and a further one

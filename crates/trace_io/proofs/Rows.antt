@@ -3,9 +3,9 @@ use Rattle.std.proofs.Common.{◌≡◌, ℕ, ◌+◌, ◌<◌, ◌≤◌, suc, 
 use Rattle.std.proofs.Math.ListN.{drop_of_length-le}
 use Rattle.std.proofs.lemmas.List.{take_all, take_more_set, map-append, append-nil}
 use Rattle.step_objects.specs.declared.shape.Values.{Values}
-use Rattle.step_objects.specs.declared.cell.Cell.{Cell}
-use Rattle.step_objects.specs.declared.cell.Cell.TheVariants.{Value}
-use Rattle.step_objects.specs.Shapes.{cells_of}
+use Rattle.step_cells.specs.declared.cell.Cell.{Cell}
+use Rattle.step_cells.specs.declared.cell.Cell.TheVariants.{Value}
+use Rattle.step_cells.specs.Cells.{cells_of}
 use Rattle.trace_io.specs.RowText.{IsRow, is_blank, Word, word_at, words_from, word_value, with_value, row_from, row_text}
 use Rattle.trace_io.specs.declared.row_text.RowFault.{RowFault}
 use Rattle.trace_io.specs.declared.row_text.RowFault.TheVariants.{TooFew, TooMany, BadValue}

@@ -7,8 +7,8 @@ use Rattle.std.specs.Str.Parse.{digits_value, starts_with_minus}
 use Rattle.hept_ast.specs.Texts.{Name, is_in, place_in}
 use Rattle.step_objects.specs.declared.shape.Values.{Values}
 use Rattle.step_objects.specs.declared.shape.Values.TheVariants.{Numbers, Truths, Constructors}
-use Rattle.step_objects.specs.declared.cell.Cell.{Cell}
-use Rattle.step_objects.specs.Shapes.{cells_of}
+use Rattle.step_cells.specs.declared.cell.Cell.{Cell}
+use Rattle.step_cells.specs.Cells.{cells_of}
 use Rattle.trace_io.specs.declared.row_text.RowFault.{RowFault}
 use Rattle.trace_io.specs.declared.row_text.RowFault.TheVariants.{TooFew, TooMany, BadValue}
 

@@ -2,7 +2,8 @@
 ghost use Rattle.std.specs.Prelude.{◌≡◌, ◌+◌, ◌<◌, ◌≤◌, length, IfOk, IfSome, OnOk, OnErr, vec_capacity, vec_len, ◌++◌, if◌then◌else◌, [], ◌∷◌};
 ghost use Rattle.std.specs.Io.KnownBytes.{Appends};
 ghost use Rattle.hept_io.specs.Outside.{Rose};
-ghost use Rattle.step_objects.specs.Shapes.{FitsShape, row_of, value_count};
+ghost use Rattle.step_objects.specs.Shapes.{FitsShape, value_count};
+ghost use Rattle.step_cells.specs.Cells.{row_of};
 ghost use Rattle.trace_io.specs.OutputText.{AppendsPart, longest, row_line, value_text, widest, widest_row};
 
 use hept_ast::{Memory, Name};

@@ -1,8 +1,9 @@
 use Rattle.std.proofs.Common.{◌≡◌, ℕ, ◌<◌, take}
 use Rattle.std.specs.Prelude.{slice_index_or}
-use Rattle.step_objects.specs.declared.cell.Cell.{Cell}
+use Rattle.step_cells.specs.declared.cell.Cell.{Cell}
 use Rattle.step_objects.specs.declared.shape.Values.TheVariants.{Numbers}
-use Rattle.step_objects.specs.Shapes.{IsValueOf, row_of}
+use Rattle.step_objects.specs.Shapes.{IsValueOf}
+use Rattle.step_cells.specs.Cells.{row_of}
 use Rattle.hepasync_top.proofs.stepper.give_row.Given as goal
 
 abbrev pub invariant-loop-i : goal.invariant-loop-i

@@ -1,5 +1,5 @@
 use Rattle.std.proofs.Common.{◌≡◌, ℕ, ◌<◌, slice_index}
-use Rattle.step_objects.specs.Shapes.{row_of}
+use Rattle.step_cells.specs.Cells.{row_of}
 use Rattle.hepasync_top.proofs.stepper.put_row.Given as goal
 
 abbrev pub invariant-loop-i : goal.invariant-loop-i

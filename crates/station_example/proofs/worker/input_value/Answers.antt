@@ -1,8 +1,8 @@
 use Rattle.std.proofs.Common.{◌≡◌, ap, sym, ◌∙◌, List, get_or, arith}
 use mathlib.Core.Option.{some}
 use lib.ListN.{get_elem?}
-use Rattle.station_rule.specs.declared.cell.Cell.{Cell}
-use Rattle.station_rule.specs.declared.cell.Cell.TheVariants.{Value, Held}
+use Rattle.step_cells.specs.declared.cell.Cell.{Cell}
+use Rattle.step_cells.specs.declared.cell.Cell.TheVariants.{Value, Held}
 use Rattle.station_rule.proofs.CellWords.{at_or}
 use Rattle.station_example.proofs.worker.input_value.Goals as goal
 

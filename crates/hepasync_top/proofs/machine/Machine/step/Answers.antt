@@ -1,6 +1,7 @@
 use Rattle.std.proofs.Common.{◌++◌, [], ◌∷◌, ◌∙◌, List, sym, subst, arith}
-use Rattle.step_objects.specs.declared.cell.Cell.{Cell}
-use Rattle.step_objects.specs.Shapes.{FitsShape, row_of}
+use Rattle.step_cells.specs.declared.cell.Cell.{Cell}
+use Rattle.step_objects.specs.Shapes.{FitsShape}
+use Rattle.step_cells.specs.Cells.{row_of}
 use Rattle.hepasync_top.specs.Stepping.{GivesRows, Stands}
 use Rattle.hepasync_top.proofs.Integers.{numbers_fit}
 use Rattle.hepasync_top.proofs.NextOutputs.{written_back}

@@ -1,8 +1,8 @@
 use Rattle.std.proofs.Common.{◌∙◌, sym, subst, List}
 use Rattle.std.specs.Io.KnownBytes.{Appends}
 use Rattle.step_objects.specs.declared.shape.Values.{Values}
-use Rattle.step_objects.specs.declared.cell.Cell.{Cell}
-use Rattle.step_objects.specs.Shapes.{row_of}
+use Rattle.step_cells.specs.declared.cell.Cell.{Cell}
+use Rattle.step_cells.specs.Cells.{row_of}
 use Rattle.trace_io.specs.OutputText.{row_line, AppendsPart}
 use Rattle.hepasync_top.proofs.LineSteps.{loses_row}
 use Rattle.hepasync_top.proofs.machine.Machine.turn.Goals as goal

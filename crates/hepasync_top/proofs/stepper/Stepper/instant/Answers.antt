@@ -7,7 +7,7 @@ use Rattle.hepasync_top.specs.declared.equations.Assignment.{Assignment}
 use Rattle.hepasync_top.specs.Terms.{declared_names, term_value}
 use Rattle.hepasync_top.specs.Stepping.{AreKnown, MakesKnown}
 use Rattle.hepasync_top.proofs.AtInstant.{makes_at, known_after, rewritten, as_many, ready_with, outputs_have, cells_after}
-use Rattle.step_objects.specs.Shapes.{row_of}
+use Rattle.step_cells.specs.Cells.{row_of}
 use Rattle.hepasync_top.proofs.Cells.{row_length}
 use Rattle.hepasync_top.proofs.RowByRow.{more_rows}
 use Rattle.hepasync_top.proofs.stepper.Stepper.instant.Goals as goal
