@@ -6,5 +6,3 @@ pub mod Text
 pub mod Reading
 pub mod Laws
 pub mod Spelling
-pub mod Served
-pub mod Serving

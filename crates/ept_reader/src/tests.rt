@@ -2,9 +2,10 @@ ghost use Rattle.std.specs.Prelude.{◌<◌, ◌^◌, length};
 
 use crate::cutter::{CutFault, cut};
 use crate::reader::{ReadFault, read_program};
+use crate::show::{Page, show};
 use crate::token::Kind;
 use hept_ast::Place;
-use std::alloc::Global;
+use std::alloc::{AllocError, Global};
 use std::process::Abort;
 use std::test::Fail;
 
@@ -29,15 +30,6 @@ fn assert_fault(rt: &impl Abort, alloc: Global, text: &[u8], fault: CutFault)
     match cut(alloc, text) {
         Ok(_) => assert!(rt; false),
         Err(found) => assert!(rt; found == fault),
-    }
-}
-
-fn assert_not_served(rt: &impl Abort, alloc: Global, text: &[u8])
-    requires { length text.now < 2 ^ 32 }
-{
-    match read_program(alloc, text) {
-        Ok(_) => assert!(rt; false),
-        Err(fault) => assert!(rt; fault == ReadFault::NotServed),
     }
 }
 
@@ -111,33 +103,268 @@ fn delayed_sum(rt: HostRuntime) -> Result<(), Fail> {
     Ok(())
 }
 
+fn assert_read_fault(rt: &impl Abort, alloc: Global, text: &[u8], fault: ReadFault)
+    requires { length text.now < 2 ^ 32 }
+{
+    match read_program(alloc, text) {
+        Ok(_) => assert!(rt; false),
+        Err(found) => assert!(rt; found == fault),
+    }
+}
+
+/// The answer for a text in three parts, of which the middle one stands so many times.
+fn answer(
+    alloc: Global,
+    front: &[u8],
+    middle: &[u8],
+    times: usize,
+    back: &[u8],
+) -> Result<Option<ReadFault>, AllocError> {
+    let mut text = Vec::new(alloc);
+    text.extend_from_slice(front)?;
+    for _ in 0..times {
+        text.extend_from_slice(middle)?;
+    }
+    text.extend_from_slice(back)?;
+    if text.len() > 1_000_000 {
+        return Err(AllocError);
+    }
+    match read_program(alloc, text.as_slice()) {
+        Ok(_) => Ok(None),
+        Err(fault) => Ok(Some(fault)),
+    }
+}
+
 #[test]
-fn not_served(rt: HostRuntime) {
+fn reader_faults(rt: HostRuntime) -> Result<(), Fail> {
     let alloc = rt.alloc();
-    // an undeclared variable
-    assert_not_served(
-        &rt,
-        alloc,
-        b"node main(x:int) returns (y:int) let y = z tel",
-    );
-    // an input that is defined
-    assert_not_served(
-        &rt,
-        alloc,
-        b"node main(x:int) returns (y:int) let y = x; x = 1 tel",
-    );
-    // a variable that is read before its equation
-    assert_not_served(
-        &rt,
-        alloc,
-        b"node main(x:int) returns (y:int; z:int) let y = z; z = x tel",
-    );
-    // a sign that isn't served yet
-    assert_not_served(
-        &rt,
-        alloc,
-        b"node main(x:int) returns (y:int) let y = x * x tel",
-    );
-    // no node
-    assert_not_served(&rt, alloc, b"");
+    let unexpected = ReadFault::Unexpected { at: Place(12) };
+    assert_read_fault(&rt, alloc, b"node main(x:", unexpected);
+    // `in` is reserved
+    assert_read_fault(&rt, alloc, b"node main(x:in", unexpected);
+    let open = ReadFault::OpenComment { at: Place(0) };
+    assert_read_fault(&rt, alloc, b"(* (* *)", open);
+    let large = ReadFault::NumberTooLarge { at: Place(42) };
+    let text = b"node main(x:int) returns (y:int) let y = -2147483648 tel";
+    assert_read_fault(&rt, alloc, text, large);
+    let front = b"node main(x:int) returns (y:int) let y = ";
+    let deep = answer(alloc, front, b"-", 513, b"x tel")?;
+    assert!(rt; deep == Some(ReadFault::TooDeep { at: Place(553) }));
+    let bad = ReadFault::BadByte { at: Place(5) };
+    assert_read_fault(&rt, alloc, b"node ?", bad);
+    Ok(())
+}
+
+#[test]
+fn bounds(rt: HostRuntime) -> Result<(), Fail> {
+    let alloc = rt.alloc();
+    let front = b"node n() returns (y:int) let y = ";
+    // 512 operators, and one more
+    assert!(rt; answer(alloc, front, b"not ", 512, b"x tel")?.is_none());
+    let deep = answer(alloc, front, b"not ", 513, b"x tel")?;
+    assert!(rt; deep == Some(ReadFault::TooDeep { at: Place(2081) }));
+    // a parenthesis counts as one
+    let one = answer(alloc, front, b"(", 512, b"x")?;
+    assert!(rt; one == Some(ReadFault::Unexpected { at: Place(546) }));
+    let deep = answer(alloc, front, b"(", 513, b"x")?;
+    assert!(rt; deep == Some(ReadFault::TooDeep { at: Place(545) }));
+    // the count begins anew in the next expression
+    assert!(rt; answer(alloc, front, b"(((((x))))); y = ", 200, b"x tel")?.is_none());
+    // 64 open blocks, and one more
+    let front = b"node n() returns (y:int) let ";
+    let open = answer(alloc, front, b"reset ", 64, b"")?;
+    assert!(rt; open == Some(ReadFault::Unexpected { at: Place(413) }));
+    let deep = answer(alloc, front, b"reset ", 65, b"")?;
+    assert!(rt; deep == Some(ReadFault::TooDeep { at: Place(413) }));
+    // a block that is closed counts no more
+    assert!(rt; answer(alloc, front, b"reset every x; ", 100, b"tel")?.is_none());
+    Ok(())
+}
+
+#[test]
+fn productions(rt: HostRuntime) -> Result<(), Fail> {
+    let alloc = rt.alloc();
+    let rows = [
+        (
+            b"node n() returns (y:int) let y = -3 tel".as_slice(),
+            b"node @0 n ; y @18 int ; ; define @29 y (-3 @33 ) ".as_slice(),
+        ),
+        (
+            b"node n() returns (y:int) let y = - x tel".as_slice(),
+            b"node @0 n ; y @18 int ; ; define @29 y (- (x @35 ) @33 ) ".as_slice(),
+        ),
+        (
+            b"node n() returns (y:int) let y = - -2 tel".as_slice(),
+            b"node @0 n ; y @18 int ; ; define @29 y (- (-2 @35 ) @33 ) ".as_slice(),
+        ),
+        (
+            b"node n() returns (y:int) let y = 1 - 2 - 3 tel".as_slice(),
+            b"node @0 n ; y @18 int ; ; define @29 y (- (- (1 @33 ) (2 @37 ) @35 ) (3 @41 ) @39 ) ".as_slice(),
+        ),
+        (
+            b"node n() returns (y:int) let y = 5 % 2 mod 3 tel".as_slice(),
+            b"node @0 n ; y @18 int ; ; define @29 y (% (% (5 @33 ) (2 @37 ) @35 ) (3 @43 ) @39 ) ".as_slice(),
+        ),
+        (
+            b"node n() returns (y:int) let y = not a & b or c tel".as_slice(),
+            b"node @0 n ; y @18 int ; ; define @29 y (or (& (not (a @37 ) @33 ) (b @41 ) @39 ) (c @46 ) @43 ) ".as_slice(),
+        ),
+        (
+            b"node n() returns (y:int) let y = a or b & c = d + e * f tel".as_slice(),
+            b"node @0 n ; y @18 int ; ; define @29 y (or (a @33 ) (& (b @38 ) (= (c @42 ) (+ (d @46 ) (* (e @50 ) (f @54 ) @52 ) @48 ) @44 ) @40 ) @35 ) ".as_slice(),
+        ),
+        (
+            b"node n() returns (y:int) let y = a <= b tel".as_slice(),
+            b"node @0 n ; y @18 int ; ; define @29 y (<= (a @33 ) (b @38 ) @35 ) ".as_slice(),
+        ),
+        (
+            b"node n() returns (y:int) let y = a fby b fby c tel".as_slice(),
+            b"node @0 n ; y @18 int ; ; define @29 y (fby (a @33 ) (fby (b @39 ) (c @45 ) @41 ) @35 ) ".as_slice(),
+        ),
+        (
+            b"node n() returns (y:int) let y = a -> b -> c tel".as_slice(),
+            b"node @0 n ; y @18 int ; ; define @29 y (-> (a @33 ) (-> (b @38 ) (c @43 ) @40 ) @35 ) ".as_slice(),
+        ),
+        (
+            b"node n() returns (y:int) let y = a when b whenot c tel".as_slice(),
+            b"node @0 n ; y @18 int ; ; define @29 y (when false c (when true b (a @33 ) @35 ) @42 ) ".as_slice(),
+        ),
+        (
+            b"node n() returns (y:int) let y = a when Up(b) tel".as_slice(),
+            b"node @0 n ; y @18 int ; ; define @29 y (when Up b (a @33 ) @35 ) ".as_slice(),
+        ),
+        (
+            b"node n() returns (y:int) let y = if a then b else c tel".as_slice(),
+            b"node @0 n ; y @18 int ; ; define @29 y (if (a @36 ) (b @43 ) (c @50 ) @33 ) ".as_slice(),
+        ),
+        (
+            b"node n() returns (y:int) let y = pre x tel".as_slice(),
+            b"node @0 n ; y @18 int ; ; define @29 y (pre (x @37 ) @33 ) ".as_slice(),
+        ),
+        (
+            b"node n() returns (y:int) let y = !x tel".as_slice(),
+            b"node @0 n ; y @18 int ; ; define @29 y (! (x @34 ) @33 ) ".as_slice(),
+        ),
+        (
+            b"node n() returns (y:int) let y = last x tel".as_slice(),
+            b"node @0 n ; y @18 int ; ; define @29 y (last x @33 ) ".as_slice(),
+        ),
+        (
+            b"node n() returns (y:int) let y = true tel".as_slice(),
+            b"node @0 n ; y @18 int ; ; define @29 y (true @33 ) ".as_slice(),
+        ),
+        (
+            b"node n() returns (y:int) let y = Up tel".as_slice(),
+            b"node @0 n ; y @18 int ; ; define @29 y (Up @33 ) ".as_slice(),
+        ),
+        (
+            b"node n() returns (y:int) let y = f() tel".as_slice(),
+            b"node @0 n ; y @18 int ; ; define @29 y (call f @33 ) ".as_slice(),
+        ),
+        (
+            b"node n() returns (y:int) let y = f(x, 2) tel".as_slice(),
+            b"node @0 n ; y @18 int ; ; define @29 y (call f (x @35 ) (2 @38 ) @33 ) ".as_slice(),
+        ),
+        (
+            b"node n() returns (y:int) let y = merge c (true -> x) (Up -> y) tel".as_slice(),
+            b"node @0 n ; y @18 int ; ; define @29 y (merge c @41 true (x @50 ) @53 Up (y @60 ) @33 ) ".as_slice(),
+        ),
+        (
+            b"node n() returns (y:int) let y = async f(x) tel".as_slice(),
+            b"node @0 n ; y @18 int ; ; define @29 y (async @2 f (x @41 ) @33 ) ".as_slice(),
+        ),
+        (
+            b"node n() returns (y:int) let y = async<<3>> f(x) tel".as_slice(),
+            b"node @0 n ; y @18 int ; ; define @29 y (async @3 f (x @46 ) @33 ) ".as_slice(),
+        ),
+        (
+            b"node n() returns (y:int) let y = async -4 tel".as_slice(),
+            b"node @0 n ; y @18 int ; ; define @29 y (async -4 @33 ) ".as_slice(),
+        ),
+        (
+            b"node n() returns (y:int) let y = (x) tel".as_slice(),
+            b"node @0 n ; y @18 int ; ; define @29 y (x @34 ) ".as_slice(),
+        ),
+        (b"type t = A | B".as_slice(), b"type @0 t A B ".as_slice()),
+        (
+            b"node n(a,b:int;c:future bool;) returns (last y:t = async -1) var z:int; let tel".as_slice(),
+            b"node @0 n a @7 int b @9 int c @15 future bool ; y @45 t = async -1 ; z @65 int ; ".as_slice(),
+        ),
+        (
+            b"node n() returns (y:int) let (a, b) = x; tel".as_slice(),
+            b"node @0 n ; y @18 int ; ; define @29 a b (x @38 ) ".as_slice(),
+        ),
+        (
+            b"node n() returns (y:int) let switch c | true do y = 1 | Up do var z:int in end tel".as_slice(),
+            b"node @0 n ; y @18 int ; ; switch @29 (c @36 ) @38 true ; define @48 y (1 @52 ) @54 Up z @66 int ; end ".as_slice(),
+        ),
+        (
+            b"node n() returns (y:int) let reset y = 3 every d tel".as_slice(),
+            b"node @0 n ; y @18 int ; ; reset @29 ; define @35 y (3 @39 ) every (d @47 ) ".as_slice(),
+        ),
+        (
+            b"node n() returns (y:int) let automaton state A do until p then B unless | (q) continue A | r then B state B do end tel".as_slice(),
+            b"node @0 n ; y @18 int ; ; automaton @29 state @39 A ; until @56 (p @56 ) then B unless @74 (q @75 ) continue A @91 (r @91 ) then B state @100 B ; until unless end ".as_slice(),
+        ),
+    ];
+    for (text, tree) in rows.as_slice() {
+        assert!(rt; text.len() < 1_000);
+        match read_program(alloc, text) {
+            Ok(program) => {
+                let mut page = Page::new(alloc);
+                show(&mut page, &program)?;
+                assert_eq!(rt; page.bytes.as_slice(), *tree);
+            }
+            Err(_) => assert!(rt; false),
+        }
+    }
+    Ok(())
+}
+
+const POINTING: &[u8] = b"type mode = Coarse | Fine
+node estimate(star:int) returns (att:int)
+let att = star + ((0 fby att) / 2) tel
+node main(gyro,star:int) returns (cmd:int; m:mode)
+var t,est:int; tick:bool; f1 : future int;
+let
+  t = 0 fby (if t = 9 then 0 else t + 1);
+  tick = (t = 0);
+  f1 = async estimate(star when tick);
+  est = merge tick (true -> !((async 0) fby f1)) (false -> (0 fby est) whenot tick);
+  automaton
+    state Far do m = Coarse; cmd = 0 - (est / 4) - gyro
+      until est < 100 & est > -100 then Near
+    state Near do m = Fine; cmd = 0 - (est / 16) - gyro / 2
+      unless est >= 100 or est <= -100 then Far
+  end
+tel
+";
+
+fn place_of(fault: ReadFault) -> Option<u32> {
+    match fault {
+        ReadFault::BadByte { at } => Some(at.0),
+        ReadFault::OpenComment { at } => Some(at.0),
+        ReadFault::NumberTooLarge { at } => Some(at.0),
+        ReadFault::Unexpected { at } => Some(at.0),
+        ReadFault::TooDeep { at } => Some(at.0),
+        ReadFault::Memory => None,
+    }
+}
+
+#[test]
+fn prefixes_of_pointing(rt: HostRuntime) {
+    let alloc = rt.alloc();
+    assert!(rt; POINTING.len() < 1_000);
+    let mut whole = 0u32;
+    for length in 0..=POINTING.len() {
+        match read_program(alloc, &POINTING[..length]) {
+            Ok(_) => whole = whole.saturating_add(1),
+            Err(fault) => match place_of(fault) {
+                Some(place) => assert!(rt; place as usize <= length),
+                None => assert!(rt; false),
+            },
+        }
+    }
+    // nothing at all is a program, and so are types and nodes from the first on
+    assert!(rt; whole > 3);
 }

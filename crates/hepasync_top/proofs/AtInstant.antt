@@ -17,7 +17,7 @@ use Rattle.hept_ast.specs.declared.tree.Program.{Program}
 use Rattle.hept_ast.specs.declared.tree.Node.{Node}
 use Rattle.hept_ast.specs.declared.tree.Expr.{Expr}
 use Rattle.hept_ast.proofs.Depths.{to_rule, kept_by_rows}
-use Rattle.ept_reader.specs.Served.{IsServed}
+use Rattle.hepasync_top.specs.Served.{IsServed}
 use Rattle.hepasync_top.specs.declared.equations.Term.{Term}
 use Rattle.hepasync_top.specs.declared.equations.Assignment.{Assignment}
 use Rattle.hepasync_top.specs.Terms.{IsInside, declared_names, term_value}

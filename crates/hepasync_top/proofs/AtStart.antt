@@ -10,7 +10,7 @@ use Rattle.hept_ast.specs.declared.tree.Program.{Program}
 use Rattle.hept_ast.specs.declared.tree.Node.{Node}
 use Rattle.hept_ast.specs.declared.tree.Expr.{Expr}
 use Rattle.hept_ast.specs.declared.tree.Equation.{Equation}
-use Rattle.ept_reader.specs.Served.{ServedExpr, number, variable, sum, fby, ServedBody, none, next, IsServed}
+use Rattle.hepasync_top.specs.Served.{ServedExpr, number, variable, sum, fby, ServedBody, none, next, IsServed}
 use Rattle.hepasync_top.specs.declared.equations.Term.{Term}
 use Rattle.hepasync_top.specs.declared.equations.Assignment.{Assignment}
 use Rattle.hepasync_top.specs.Terms.{declared_names, EachStands}

@@ -20,7 +20,7 @@ use Rattle.hept_ast.specs.declared.tree.State.{State}
 use Rattle.hept_ast.specs.declared.tree.Equation.{Equation, out-Equation}
 use Rattle.hept_ast.specs.declared.tree.Equation.TheOpen.{Equation-F}
 use Rattle.hept_ast.proofs.Depths.{to_rule}
-use Rattle.ept_reader.specs.Served.{ServedBody, none, next}
+use Rattle.hepasync_top.specs.Served.{ServedBody, none, next}
 use Rattle.hepasync_top.specs.declared.equations.Term.{Term}
 use Rattle.hepasync_top.specs.declared.equations.Assignment.{Assignment}
 use Rattle.hepasync_top.specs.Terms.{StandsFor, declared_names, term_value}

@@ -12,7 +12,7 @@ use Rattle.hept_ast.specs.declared.tree.Form as form
 use Rattle.hept_ast.specs.declared.tree.Form.{Form, out-Form}
 use Rattle.hept_ast.specs.declared.tree.Form.TheOpen.{Form-F}
 use Rattle.hept_ast.proofs.Unfolded.{tree}
-use Rattle.ept_reader.specs.Served.{ServedExpr, number, variable, sum, fby}
+use Rattle.hepasync_top.specs.Served.{ServedExpr, number, variable, sum, fby}
 use Rattle.hepasync_top.specs.declared.equations.Term.{Term}
 use Rattle.hepasync_top.specs.declared.equations.Term.TheVariants.{Number, Variable, Add', Sub', Fby'}
 use Rattle.hepasync_top.specs.Terms.{Compiled, number_term, variable_term, sum_term, difference_term, fby_term, IsNumber, IsSumOrDifference, StandsFor, Extends, EachStands, IsInside}

@@ -8,7 +8,7 @@ use Rattle.hept_ast.specs.declared.tree.Decl.{Decl}
 use Rattle.hept_ast.specs.declared.tree.Node.{Node}
 use Rattle.hept_ast.specs.declared.tree.Ty.{Ty}
 use Rattle.hept_ast.specs.Types.{is_plain, type_is_known}
-use Rattle.ept_reader.specs.Served.{IsInteger}
+use Rattle.hepasync_top.specs.Served.{IsInteger}
 use Rattle.step_objects.specs.declared.shape.Values.{Values}
 use Rattle.step_objects.specs.declared.shape.Values.TheVariants.{Numbers}
 use Rattle.step_cells.specs.declared.cell.Cell.{Cell}

@@ -11,3 +11,4 @@ pub mod Ends
 pub mod LineSteps
 pub mod NextOutputs
 pub mod Statuses
+pub mod Serves

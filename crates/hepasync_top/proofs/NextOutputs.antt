@@ -2,7 +2,7 @@
 use Rattle.std.proofs.Common.{◌≡◌, ℕ, ◌+◌, List, [], ◌∷◌, ◌++◌, length, take, drop, map, Option, Some, None, sym, refl, ap, ◌∙◌, subst}
 use Rattle.std.specs.Prelude.{IsSomeAnd}
 use Rattle.std.specs.Option.{option_map}
-use Rattle.ept_reader.specs.Served.{IsServed}
+use Rattle.hepasync_top.specs.Served.{IsServed}
 use Rattle.hept_ast.specs.Scopes.{Text}
 use Rattle.hept_ast.specs.Settings.{no_marks, no_replies}
 use Rattle.hept_ast.specs.Outputs.{Outputs}

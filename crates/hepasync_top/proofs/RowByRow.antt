@@ -6,7 +6,7 @@ use Rattle.hept_ast.specs.Outputs.{HaveValues, OutputsFrom, output_questions}
 use Rattle.hept_ast.specs.declared.tree.Program.{Program}
 use Rattle.hept_ast.specs.declared.tree.Node.{Node}
 use Rattle.hept_ast.proofs.Depths.{kept_by_rows}
-use Rattle.ept_reader.specs.Served.{IsServed}
+use Rattle.hepasync_top.specs.Served.{IsServed}
 use Rattle.hepasync_top.specs.Stepping.{setting, GivesRows, GivesLast}
 
 values_kept : (w : Setting) (rows more : List (List ℕ)) (qs : List Question) (vs : List ℕ) → HaveValues w rows qs vs → HaveValues w (rows ++ more) qs vs

@@ -6,3 +6,5 @@ pub mod Outputs
 pub mod Run
 pub mod Turns
 pub mod Words
+pub mod Served
+pub mod Serving

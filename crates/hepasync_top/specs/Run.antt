@@ -1,7 +1,7 @@
 -- What a run does.
 use Rattle.std.specs.Prelude.{◌≡◌, ℕ, List, [], ◌++◌, map, Option, Some, IfSome, IsSomeAnd, Ok, ◌⊎◌}
 use Rattle.hept_ast.specs.declared.tree.Program.{Program}
-use Rattle.ept_reader.specs.Served.{IsServed}
+use Rattle.hepasync_top.specs.Served.{IsServed}
 use Rattle.hept_io.specs.Outside.{Files, HasFile}
 use Rattle.hept_io.specs.Lines.{lines_of}
 use Rattle.hepasync_top.specs.Words.{file_of}
@@ -9,7 +9,8 @@ use Rattle.hepasync_top.specs.End.{IsNotRead}
 use Rattle.trace_io.specs.RowText.{row_text}
 use Rattle.trace_io.specs.OutputText.{output_text}
 use Rattle.hepasync_top.specs.Outputs.{ErasedOutputs, input_shape, output_shape}
-use Rattle.ept_reader.specs.Spelling.{IsProgramText}
+use Rattle.ept_reader.specs.Spelling.{IsProgramText, IsRefusalOf}
+use Rattle.ept_reader.specs.declared.reader.ReadFault.{ReadFault}
 use Rattle.hepasync_top.specs.Turns.{RunEnds}
 
 -- The words name a file, and its bytes are the text of a program that is served.
@@ -55,12 +56,17 @@ pub record FileIsNotRead (files : Option Files) (words : List (List ℕ)) (old n
   pub named : file_of words ≡ Some name
   pub cause : IsNotRead files old new name
 
--- The words name a file, and its bytes were read.
-pub record FileIsRead (files : Option Files) (words : List (List ℕ)) : Type 0 where
+-- The bytes are no text of a program, or of one that isn't served.
+abbrev pub IsRefusedText : List ℕ → Type 0
+IsRefusedText bytes = ((f : ReadFault) × IsRefusalOf bytes f) ⊎ ((p : Program) × IsProgramText bytes p × (IsServed p → ⊥))
+
+-- The words name a file, and its bytes were read and are refused.
+pub record FileIsRefused (files : Option Files) (words : List (List ℕ)) : Type 0 where
   pub name : List ℕ
   pub named : file_of words ≡ Some name
   pub bytes : List ℕ
   pub file : IfSome files (λ files. HasFile files name bytes)
+  pub refused : IsRefusedText bytes
 
 -- where the bytes of the trace were told, none is left
 abbrev pub HasNoneLeft : Option (List ℕ) → Option (List ℕ) → Type 0

@@ -11,7 +11,7 @@ use Rattle.hept_ast.specs.declared.tree.Node.{Node}
 use Rattle.hept_ast.specs.declared.tree.Expr.{Expr}
 use Rattle.hept_ast.specs.declared.tree.Equation.{Equation, out-Equation}
 use Rattle.hept_ast.specs.declared.tree.Equation.TheOpen.{Equation-F}
-use Rattle.ept_reader.specs.Served.{IsServed, ServedExpr}
+use Rattle.hepasync_top.specs.Served.{IsServed, ServedExpr}
 use Rattle.hepasync_top.specs.declared.equations.Term.{Term}
 use Rattle.hepasync_top.specs.declared.equations.Assignment.{Assignment}
 use Rattle.hepasync_top.specs.declared.stepper.Stepper.{Stepper}

@@ -10,7 +10,7 @@ use Rattle.hept_ast.specs.declared.tree.Const.{Const}
 use Rattle.hept_ast.specs.declared.tree.Const.TheVariants as const
 use Rattle.hept_ast.specs.declared.tree.BinaryOp.{BinaryOp}
 use Rattle.hept_ast.specs.declared.tree.BinaryOp.TheVariants as binary
-use Rattle.ept_reader.specs.Served.{ServedExpr}
+use Rattle.hepasync_top.specs.Served.{ServedExpr}
 use Rattle.hepasync_top.specs.declared.equations.Term.{Term}
 use Rattle.hepasync_top.specs.declared.equations.Term.TheVariants.{Number, Variable, Add', Sub', Fby'}
 

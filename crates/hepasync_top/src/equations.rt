@@ -1,6 +1,6 @@
 ghost use Rattle.std.specs.Prelude.{◌≡◌, ◌++◌, ◌∷◌, [], All, length, IfOk, OnErr, OnOk};
 ghost use Rattle.hept_ast.specs.Texts.{const_value, names, place_in};
-ghost use Rattle.ept_reader.specs.Served.{ServedExpr};
+ghost use Rattle.hepasync_top.specs.Served.{ServedExpr};
 ghost use Rattle.hepasync_top.specs.Stepping.{Assigns, IsAssignmentOf, IsServedEquation};
 ghost use Rattle.hepasync_top.specs.Terms.{
   EachStands,

@@ -4,6 +4,7 @@
 mod end;
 mod equations;
 mod machine;
+mod served;
 mod stepper;
 mod top;
 mod words;

@@ -29,7 +29,7 @@ pub(crate) struct Machine {
 impl Machine {
     ghost use Rattle.std.specs.Prelude.{◌≡◌, ℕ, ◌≤◌, List, ◌∷◌, ◌++◌, [], Err, OnOk, IfOk};
     ghost use Rattle.hept_ast.specs.declared.tree.Program.{Program};
-    ghost use Rattle.ept_reader.specs.Served.{IsServed};
+    ghost use Rattle.hepasync_top.specs.Served.{IsServed};
     ghost use Rattle.hept_io.specs.Lines.{to_come};
     ghost use Rattle.hept_io.specs.Outside.{Rose};
     ghost use Rattle.hepasync_top.specs.Machine.{CanTurn, HasDone, Turns, TurnsEnd};

@@ -1,6 +1,6 @@
 ghost use Rattle.std.specs.Prelude.{◌≡◌, ℕ, ◌++◌, ◌∷◌, [], List, Some, None, All, EachIndex, IfOk, ◌≤◌, length, map, replicate, slice_index};
 ghost use Rattle.hept_ast.specs.declared.tree.Program.{Program};
-ghost use Rattle.ept_reader.specs.Served.{IsServed};
+ghost use Rattle.hepasync_top.specs.Served.{IsServed};
 ghost use Rattle.step_objects.specs.Shapes.{IsValueOf};
 ghost use Rattle.step_cells.specs.Cells.{row_of};
 ghost use Rattle.step_objects.specs.declared.shape.Values.TheVariants.{Numbers};

@@ -118,6 +118,30 @@ fn undeclared(rt: HostRuntime) -> Result<(), Fail> {
     )
 }
 
+// Texts of programs that aren't run so far, and texts of none.
+#[test]
+fn refused(rt: HostRuntime) -> Result<(), Fail> {
+    let texts = [
+        // an input that is defined
+        b"node main(x:int) returns (y:int) let y = x; x = 1 tel".as_slice(),
+        // a variable that is read before its equation
+        b"node main(x:int) returns (y:int; z:int) let y = z; z = x tel".as_slice(),
+        // a sign that isn't served
+        b"node main(x:int) returns (y:int) let y = x * x tel".as_slice(),
+        // a type
+        b"type t = A node main(x:int) returns (y:int) let y = x tel".as_slice(),
+        // no node
+        b"".as_slice(),
+        // no text of a program
+        b"node main(x:int) returns (y:int) let y = x".as_slice(),
+        b"node main(x:int) returns (y:int) let y = ? tel".as_slice(),
+    ];
+    for text in texts {
+        expect(&rt, rt.alloc(), text, b"1\n", 1, b"")?;
+    }
+    Ok(())
+}
+
 #[test]
 fn failing_sink(rt: HostRuntime) -> Result<(), Fail> {
     let (ended, written) = outcome(rt.alloc(), DELAYED_SUM, b"1\n2\n3\n", 65_536, &[2])?;

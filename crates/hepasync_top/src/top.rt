@@ -1,15 +1,16 @@
 //! The top call.
-ghost use Rattle.std.specs.Prelude.{◌≡◌, ◌≤◌, ◌<◌, ◌^◌, length, OnErr, ◌⊎◌, [], None, ◌↔◌, map, string_bytes, IfOk, IfErr, IfSome, Some, Err};
-ghost use Rattle.ept_reader.specs.Served.{IsServed};
+ghost use Rattle.std.specs.Prelude.{◌≡◌, ◌≤◌, ◌<◌, ◌^◌, length, ◌≢◌, ◌⊎◌, [], None, ◌↔◌, map, string_bytes, IfOk, IfErr, IfSome, Some, Err};
+ghost use Rattle.hepasync_top.specs.Served.{IsServed};
 ghost use Rattle.hept_io.specs.Outside.{Rose};
 ghost use Rattle.hepasync_top.specs.End.{IsBefore, status_of};
 ghost use Rattle.hepasync_top.specs.Machine.{IsFresh};
-ghost use Rattle.hepasync_top.specs.Run.{FileIsNotRead, FileIsRead, HasNoneLeft, Runs, StopsBefore, WritesOnlyAfterReading, WrittenWhereTold};
+ghost use Rattle.hepasync_top.specs.Run.{FileIsNotRead, FileIsRefused, IsRefusedText, HasNoneLeft, Runs, StopsBefore, WritesOnlyAfterReading, WrittenWhereTold};
 ghost use Rattle.ept_reader.specs.Spelling.{IsProgramText};
 ghost use Rattle.hepasync_top.specs.Words.{file_of};
 
 use crate::end::End;
 use crate::machine::Machine;
+use crate::served::is_served;
 use crate::words::{file_of, read_text};
 use ept_reader::{ReadFault, read_program};
 use hept_ast::{Memory, Program};
@@ -28,17 +29,31 @@ pub struct RunEnd {
     pub status: u8,
 }
 
-/// The program that a text spells.
+/// How a run ends whose text is not read.
+fn end_of(fault: ReadFault) -> End
+    ensures { ((result ≡ End.Refused) × (fault ≢ ReadFault.Memory)) ⊎ (result ≡ End.Memory) }
+{
+    match fault {
+        ReadFault::Memory => End::Memory,
+        _ => End::Refused,
+    }
+}
+
+/// The program that a text spells, if it is one that is run so far.
 fn read_served(alloc: Global, text: &[u8]) -> Result<Program, End>
     requires { length text.now < 2 ^ 32 }
     ensures text { IfOk result (λ p. IsProgramText text.now p) }
     ensures served { IfOk result (λ p. IsServed p) }
-    ensures ends { OnErr result ((result ≡ Err End.Refused) ⊎ (result ≡ Err End.Memory)) }
+    ensures ends { IfErr result (λ e. ((e ≡ End.Refused) × IsRefusedText text.now) ⊎ (e ≡ End.Memory)) }
 {
-    match read_program(alloc, text) {
-        Ok(program) => Ok(program),
-        Err(ReadFault::NotServed) => Err(End::Refused),
-        Err(ReadFault::Memory) => Err(End::Memory),
+    let program = match read_program(alloc, text) {
+        Ok(program) => program,
+        Err(fault) => return Err(end_of(fault)),
+    };
+    match is_served(alloc, &program) {
+        Ok(true) => Ok(program),
+        Ok(false) => Err(End::Refused),
+        Err(_) => Err(End::Memory),
     }
 }
 
@@ -47,7 +62,7 @@ fn prepare<F: Store>(alloc: Global, words: &[String], files: &mut F) -> Result<M
     ensures ready { IfOk result (λ m. IsFresh (F.files files.old) (map string_bytes words.now) m) }
     ensures ends { IfErr result IsBefore }
     ensures usage { (result ≡ Err End.Usage) ↔ (file_of (map string_bytes words.now) ≡ None) }
-    ensures refused { result ≡ Err End.Refused → FileIsRead (F.files files.old) (map string_bytes words.now) }
+    ensures refused { result ≡ Err End.Refused → FileIsRefused (F.files files.old) (map string_bytes words.now) }
     ensures file { result ≡ Err End.File → FileIsNotRead (F.files files.old) (map string_bytes words.now) (F.faults files.old) (F.faults files.new) }
     ensures count { F.faults files.old ≤ F.faults files.new }
 {
@@ -73,7 +88,7 @@ fn run_to_end<F: Store, S: Source, K: Sink>(
     ensures runs { Runs 4294967294 (F.files files.old) (map string_bytes words.now) (S.left trace.old) (K.held out.old) (S.left trace.new) (K.held out.new) (status_of result)
         ⊎ StopsBefore (S.left trace.old) (K.held out.old) (S.left trace.new) (K.held out.new) (status_of result) }
     ensures usage { (result ≡ End.Usage) ↔ (file_of (map string_bytes words.now) ≡ None) }
-    ensures refused { result ≡ End.Refused → FileIsRead (F.files files.old) (map string_bytes words.now) }
+    ensures refused { result ≡ End.Refused → FileIsRefused (F.files files.old) (map string_bytes words.now) }
     ensures file { result ≡ End.File → FileIsNotRead (F.files files.old) (map string_bytes words.now) (F.faults files.old) (F.faults files.new) }
     ensures read_fault { result ≡ End.ReadFault → Rose (S.faults trace.old) (S.faults trace.new) }
     ensures write_fault { result ≡ End.WriteFault → Rose (K.faults out.old) (K.faults out.new) }
@@ -115,7 +130,7 @@ pub fn run<R, F: Store, S: Source, K: Sink, E: Sink, G: Gate>(
 
     // Why it ends so.
     ensures usage { (result.status ≡ 2) ↔ (file_of (map string_bytes words.now) ≡ None) }
-    ensures refused { result.status ≡ 1 → FileIsRead (F.files files.old) (map string_bytes words.now) }
+    ensures refused { result.status ≡ 1 → FileIsRefused (F.files files.old) (map string_bytes words.now) }
     ensures file { result.status ≡ 3 → FileIsNotRead (F.files files.old) (map string_bytes words.now) (F.faults files.old) (F.faults files.new) }
     ensures read_fault { result.status ≡ 6 → Rose (S.faults trace.old) (S.faults trace.new) }
     ensures write_fault { result.status ≡ 7 → Rose (K.faults out.old) (K.faults out.new) }

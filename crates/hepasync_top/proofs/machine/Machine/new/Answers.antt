@@ -4,7 +4,7 @@ use Rattle.hept_ast.specs.declared.tree.Node.{Node}
 use Rattle.step_objects.specs.declared.shape.Values.{Values}
 use Rattle.step_objects.specs.declared.shape.Values.TheVariants.{Numbers}
 use Rattle.step_objects.specs.Shapes.{is_declared_plain, shape_of}
-use Rattle.ept_reader.specs.Served.{IsInteger}
+use Rattle.hepasync_top.specs.Served.{IsInteger}
 use Rattle.hepasync_top.proofs.Integers.{all_front, all_back, same_node, integers_plain, integers_numbers, shape_length}
 use Rattle.hepasync_top.proofs.machine.Machine.new.Goals as goal
 
