@@ -4,3 +4,6 @@ pub mod Overs
 pub mod Chosen
 pub mod Again
 pub mod CaseLists
+pub mod OwnSeen
+pub mod Swaps
+pub mod Walks

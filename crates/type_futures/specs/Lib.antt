@@ -5,3 +5,4 @@ pub mod Gathered
 pub mod Chosen
 pub mod Typing
 pub mod Defined
+pub mod Walk
