@@ -7,3 +7,4 @@ pub mod CaseLists
 pub mod OwnSeen
 pub mod Swaps
 pub mod Walks
+pub mod NameSets

@@ -9,6 +9,7 @@ mod found;
 mod gathered;
 mod labels;
 mod limits;
+mod name_set;
 mod names;
 mod pieces;
 mod queues;
