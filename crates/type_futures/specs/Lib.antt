@@ -5,3 +5,6 @@ pub mod Gathered
 pub mod Chosen
 pub mod Typing
 pub mod Defined
+pub mod Types
+pub mod Scene
+pub mod CallGraph

@@ -12,9 +12,11 @@ mod limits;
 mod names;
 mod pieces;
 mod queues;
+mod scene;
 mod sets;
 #[cfg(test)]
 mod tests;
+mod types;
 mod typing;
 mod variables;
 
