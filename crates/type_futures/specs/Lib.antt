@@ -6,3 +6,6 @@ pub mod Chosen
 pub mod Typing
 pub mod Defined
 pub mod Walk
+pub mod Types
+pub mod Scene
+pub mod CallGraph

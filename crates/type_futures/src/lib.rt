@@ -13,9 +13,11 @@ mod name_set;
 mod names;
 mod pieces;
 mod queues;
+mod scene;
 mod sets;
 #[cfg(test)]
 mod tests;
+mod types;
 mod typing;
 mod variables;
 
