@@ -6,6 +6,7 @@ pub mod Chosen
 pub mod Typing
 pub mod Defined
 pub mod Walk
+pub mod Tags
 pub mod Types
 pub mod Scene
 pub mod CallGraph

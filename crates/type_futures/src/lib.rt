@@ -15,6 +15,7 @@ mod pieces;
 mod queues;
 mod scene;
 mod sets;
+mod tags;
 #[cfg(test)]
 mod tests;
 mod types;
