@@ -8,3 +8,4 @@ pub mod OwnSeen
 pub mod Swaps
 pub mod Walks
 pub mod NameSets
+pub mod LeftTypes

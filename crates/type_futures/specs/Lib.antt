@@ -7,6 +7,7 @@ pub mod Typing
 pub mod Defined
 pub mod Walk
 pub mod Tags
+pub mod Lefts
 pub mod Types
 pub mod Scene
 pub mod CallGraph

@@ -8,6 +8,7 @@ mod expressions;
 mod found;
 mod gathered;
 mod labels;
+mod lefts;
 mod limits;
 mod name_set;
 mod names;
