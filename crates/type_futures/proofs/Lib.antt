@@ -4,3 +4,4 @@ pub mod Overs
 pub mod Chosen
 pub mod Again
 pub mod CaseLists
+pub mod Alike

@@ -8,3 +8,4 @@ pub mod Defined
 pub mod Types
 pub mod Scene
 pub mod CallGraph
+pub mod Fits

@@ -5,6 +5,7 @@ mod cases;
 mod choice;
 mod definitions;
 mod expressions;
+mod fits;
 mod found;
 mod gathered;
 mod labels;
