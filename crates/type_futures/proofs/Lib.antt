@@ -5,3 +5,4 @@ pub mod Chosen
 pub mod Again
 pub mod CaseLists
 pub mod Alike
+pub mod Judged
