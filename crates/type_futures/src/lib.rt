@@ -13,6 +13,7 @@ mod limits;
 mod names;
 mod pieces;
 mod queues;
+mod reads;
 mod scene;
 mod sets;
 #[cfg(test)]
