@@ -15,6 +15,7 @@ mod pieces;
 mod queues;
 mod reads;
 mod scene;
+mod tagged;
 mod sets;
 #[cfg(test)]
 mod tests;
