@@ -9,3 +9,5 @@ pub mod Swaps
 pub mod Walks
 pub mod NameSets
 pub mod LeftTypes
+pub mod Alike
+pub mod Judged

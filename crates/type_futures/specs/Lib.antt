@@ -11,3 +11,4 @@ pub mod Lefts
 pub mod Types
 pub mod Scene
 pub mod CallGraph
+pub mod Fits

@@ -5,6 +5,7 @@ mod cases;
 mod choice;
 mod definitions;
 mod expressions;
+mod fits;
 mod found;
 mod gathered;
 mod labels;
@@ -14,7 +15,9 @@ mod name_set;
 mod names;
 mod pieces;
 mod queues;
+mod reads;
 mod scene;
+mod tagged;
 mod sets;
 mod tags;
 #[cfg(test)]
