@@ -23,10 +23,14 @@ abbrev pub branch_tag_faults : List TypeDec → Option Ty → List Branch → Li
 branch_tag_faults types on bs = flat_map (λ b. tag_faults_by types b.place.0 b.tag on) bs
 
 -- no branch has the tag
-abbrev pub is_left_out : List Branch → Tag → Bool
-is_left_out bs t = not (list_any (λ b. same_tag t b.tag) bs)
+abbrev pub is_left_out : {B : Type 0} → (tag_of : B → Tag) → List B → Tag → Bool
+is_left_out tag_of bs t = not (list_any (λ b. same_tag t (tag_of b)) bs)
+
+-- a tag of the type is lacking
+abbrev pub is_lacking : {B : Type 0} → List TypeDec → (tag_of : B → Tag) → List B → Ty → Bool
+is_lacking types tag_of bs on = list_any (is_left_out tag_of bs) (tags_of types on)
 
 -- a switch with these branches on a value of this type lacks a tag
 abbrev pub lack_fault : List TypeDec → ℕ → List Branch → Option Ty → List Fault
 lack_fault types p bs None = []
-lack_fault types p bs (Some on) = fault p NotDefined (list_any (is_left_out bs) (tags_of types on))
+lack_fault types p bs (Some on) = fault p NotDefined (is_lacking types (λ b. b.tag) bs on)

@@ -1,5 +1,5 @@
 -- The faults of a text's parts, where what is seen around them is given.
-use Rattle.std.specs.Prelude.{Bool, List, ◌++◌}
+use Rattle.std.specs.Prelude.{Bool, false, List, [], ◌++◌}
 use Rattle.std.specs.List.{flat_map}
 use Rattle.hept_ast.specs.Faults.{Fault, Judging, is_strong, part_faults}
 use Rattle.hept_ast.specs.Parts.{Part}
@@ -10,6 +10,7 @@ use Rattle.hept_ast.specs.declared.tree.Equation.{Equation}
 use Rattle.hept_ast.specs.declared.tree.Escape.{Escape}
 use Rattle.hept_ast.specs.declared.tree.Node.{Node}
 use Rattle.hept_ast.specs.declared.tree.State.{State}
+use Rattle.type_futures.specs.declared.scene.NodeScene.{NodeScene}
 
 -- the same node, where these are seen
 abbrev pub judging_at : Judging → (seen : List Decl) → (strong : Bool) → Judging
@@ -40,3 +41,7 @@ state_faults w seen states q = flat_map (seen_faults w) (seen_state seen states 
 -- what is seen in a node's own block
 abbrev pub own_decls : Node → List Decl
 own_decls node = node.block.locals ++ node.outputs ++ node.inputs
+
+-- what a node is judged by
+abbrev pub around_judging : NodeScene → Judging
+around_judging a = record { types = a.types.now; nodes = a.nodes.now; node = a.node.now; seen = []; strong = false }

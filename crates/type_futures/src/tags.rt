@@ -1,18 +1,19 @@
-//! Tags of the branches of a switch.
+//! Tags of branches.
 ghost use Rattle.std.specs.Prelude.{◌≡◌, Some, not};
 ghost use Rattle.std.specs.List.{list_any};
 ghost use Rattle.std.specs.Option.{option_map};
 ghost use Rattle.hept_ast.specs.Limits.{earlier_of, earliest};
-ghost use Rattle.hept_ast.specs.Types.{constructors_of, same_tag, tags_of};
+ghost use Rattle.hept_ast.specs.Types.{constructors_of, same_tag};
 ghost use Rattle.hept_ast.specs.declared.tree.Tag.TheVariants as tag_;
 ghost use Rattle.hept_ast.specs.declared.tree.Ty.TheVariants as ty_;
-ghost use Rattle.type_futures.specs.Tags.{branch_tag_faults, fits_tag, is_left_out, lack_fault, tag_faults_by};
+ghost use Rattle.type_futures.specs.Tags.{branch_tag_faults, fits_tag, is_lacking, is_left_out, lack_fault, tag_faults_by};
 ghost use Rattle.type_futures.specs.Types.{type_in};
 ghost use Rattle.type_futures.specs.Typing.{plain_of};
 
 use crate::cases::{is_constructor, is_truth};
 use crate::found::{Found, Kind};
 use crate::names::is_same;
+use crate::tagged::Tagged;
 use crate::types::{Type, has_tags, is_same_type};
 use crate::typing::{PlainType, tag_type};
 use hept_ast::{Branch, Name, Place, Tag, TypeDec};
@@ -55,29 +56,29 @@ pub(crate) fn note_tags(
     }
 }
 
-fn has_truth(branches: &[Branch], value: bool) -> bool
-    ensures { result ≡ list_any (λ b. same_tag (tag_.Truth value) b.tag) branches.now }
+fn has_truth<B: Tagged>(branches: &[B], value: bool) -> bool
+    ensures { result ≡ list_any (λ b. same_tag (tag_.Truth value) (B.tag_of b)) branches.now }
 {
-    branches.iter().any(|branch| is_truth(&branch.tag, value))
+    branches.iter().any(|branch| is_truth(branch.tag(), value))
 }
 
-fn has_constructor(branches: &[Branch], name: &Name) -> bool
-    ensures { result ≡ list_any (λ b. same_tag (tag_.Constructor name.now) b.tag) branches.now }
+fn has_constructor<B: Tagged>(branches: &[B], name: &Name) -> bool
+    ensures { result ≡ list_any (λ b. same_tag (tag_.Constructor name.now) (B.tag_of b)) branches.now }
 {
     branches
         .iter()
-        .any(|branch| is_constructor(&branch.tag, name))
+        .any(|branch| is_constructor(branch.tag(), name))
 }
 
-fn lacks_constructor(branches: &[Branch], name: &Name) -> bool
-    ensures { result ≡ is_left_out branches.now (tag_.Constructor name.now) }
+fn lacks_constructor<B: Tagged>(branches: &[B], name: &Name) -> bool
+    ensures { result ≡ is_left_out B.tag_of branches.now (tag_.Constructor name.now) }
 {
     let has = has_constructor(branches, name);
     !has
 }
 
-fn lacks_truth(branches: &[Branch], value: bool) -> bool
-    ensures { result ≡ is_left_out branches.now (tag_.Truth value) }
+fn lacks_truth<B: Tagged>(branches: &[B], value: bool) -> bool
+    ensures { result ≡ is_left_out B.tag_of branches.now (tag_.Truth value) }
 {
     let has = has_truth(branches, value);
     !has
@@ -95,16 +96,16 @@ fn constructors_of<'a>(types: &'a [TypeDec], name: &Name) -> &'a [Name]
     &[]
 }
 
-fn lacks_one_of(branches: &[Branch], constructors: &[Name]) -> bool
-    ensures { result ≡ list_any (λ c. is_left_out branches.now (tag_.Constructor c)) constructors.now }
+fn lacks_one_of<B: Tagged>(branches: &[B], constructors: &[Name]) -> bool
+    ensures { result ≡ list_any (λ c. is_left_out B.tag_of branches.now (tag_.Constructor c)) constructors.now }
 {
     constructors
         .iter()
         .any(|name| lacks_constructor(branches, name))
 }
 
-fn lacks_of_plain(types: &[TypeDec], plain: PlainType<'_>, branches: &[Branch]) -> bool
-    ensures { result ≡ list_any (is_left_out branches.now) (tags_of types.now (ty_.Plain (plain_of plain.entry))) }
+fn lacks_of_plain<B: Tagged>(types: &[TypeDec], plain: PlainType<'_>, branches: &[B]) -> bool
+    ensures { result ≡ is_lacking types.now B.tag_of branches.now (ty_.Plain (plain_of plain.entry)) }
 {
     match plain {
         PlainType::Int => false,
@@ -113,8 +114,9 @@ fn lacks_of_plain(types: &[TypeDec], plain: PlainType<'_>, branches: &[Branch]) 
     }
 }
 
-fn lacks_tag(types: &[TypeDec], on: Type<'_>, branches: &[Branch]) -> bool
-    ensures { result ≡ list_any (is_left_out branches.now) (tags_of types.now (type_in on.entry)) }
+/// Whether a tag of the type is that of no branch.
+pub(crate) fn lacks_tag<B: Tagged>(types: &[TypeDec], on: Type<'_>, branches: &[B]) -> bool
+    ensures { result ≡ is_lacking types.now B.tag_of branches.now (type_in on.entry) }
 {
     match on {
         Type::Plain(plain) => lacks_of_plain(types, plain, branches),
