@@ -9,5 +9,6 @@ pub mod Swaps
 pub mod Walks
 pub mod NameSets
 pub mod LeftTypes
+pub mod Demands
 pub mod Alike
 pub mod Judged

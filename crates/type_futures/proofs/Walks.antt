@@ -2,7 +2,7 @@
 use Rattle.std.proofs.Common.{◌≡◌, Bool, true, false, List, [], ◌∷◌, ◌++◌, refl, sym, ◌∙◌, ap, map, append-nil, append_assoc}
 use Rattle.std.specs.List.{flat_map}
 use Rattle.hept_ast.specs.Texts.{Name}
-use Rattle.hept_ast.specs.Faults.{Judging, is_strong, judging, part_faults}
+use Rattle.hept_ast.specs.Faults.{Fault, Judging, is_strong, judging, part_faults}
 use Rattle.hept_ast.specs.InnerParts.{state_names}
 use Rattle.hept_ast.specs.Parts.{Block, Plain, Switch, Reset, Automaton, Transition, Placed, block_sets, branch_case, equation_case, locals_around, parts, parts_of, state_case}
 use Rattle.hept_ast.specs.SeenParts.{seen_block, seen_escapes, seen_parts, seen_state}
@@ -18,8 +18,10 @@ use Rattle.hept_ast.specs.declared.tree.Expr.{Expr}
 use Rattle.hept_ast.specs.declared.tree.Node.{Node}
 use Rattle.hept_ast.specs.declared.tree.Program.{Program}
 use Rattle.hept_ast.specs.declared.tree.State.{State}
-use Rattle.type_futures.specs.Walk.{equation_faults, escape_faults, faults_at, inner_faults, own_decls, seen_faults, state_faults}
-use Rattle.type_futures.proofs.Noting.{flat_mapped}
+use Rattle.type_futures.specs.Walk.{branch_faults, equation_faults, escape_faults, faults_at, inner_faults, own_decls, seen_faults, state_faults}
+use Rattle.hept_ast.specs.Limits.{earlier_of, earliest}
+use Rattle.std.specs.Prelude.{Option}
+use Rattle.type_futures.proofs.Noting.{flat_mapped, noted_both}
 use Rattle.type_futures.proofs.OwnSeen.{own_in, own_parts}
 
 flat_append : {Y Z : Type 0} (f : Y → List Z) (ys zs : List Y) → flat_map f (ys ++ zs) ≡ flat_map f ys ++ flat_map f zs
@@ -35,11 +37,11 @@ unfolding equation_faults
 faults-Define w seen p left right = ap (flat_map (seen_faults w)) (seen-Define seen p left right) ∙ append-nil (faults_at w seen (Plain p.0 left right))
 
 pub faults-Switch : (w : Judging) (seen : List Decl) (p : Place) (on : Expr) (bs : List Branch)
-    → equation_faults w seen (eq.Switch p on bs) ≡ faults_at w seen (Switch p.0 on (map branch_case bs)) ++ flat_map (λ c. inner_faults w seen c.block) bs
-unfolding equation_faults inner_faults
+    → equation_faults w seen (eq.Switch p on bs) ≡ faults_at w seen (Switch p.0 on (map branch_case bs)) ++ flat_map (branch_faults w seen) bs
+unfolding equation_faults inner_faults branch_faults
 faults-Switch w seen p on bs =
     ap (flat_map (seen_faults w)) (seen-Switch seen p on bs)
-    ∙ ap (λ t. faults_at w seen (Switch p.0 on (map branch_case bs)) ++ t) (flat_flat (seen_faults w) (λ c. seen_block seen c.block) (λ c. inner_faults w seen c.block) (λ c. refl) bs)
+    ∙ ap (λ t. faults_at w seen (Switch p.0 on (map branch_case bs)) ++ t) (flat_flat (seen_faults w) (λ c. seen_block seen c.block) (branch_faults w seen) (λ c. refl) bs)
 
 pub faults-Reset : (w : Judging) (seen : List Decl) (p : Place) (block : b.Block) (every : Expr)
     → equation_faults w seen (eq.Reset p block every) ≡ faults_at w seen (Reset p.0 every (block_sets block)) ++ inner_faults w seen block
@@ -59,6 +61,20 @@ unfolding equation_faults inner_faults
 inner_faults-is w seen block =
     ap (λ t. faults_at w (block.locals ++ seen) (Block block.locals (map equation_case block.body)) ++ t)
     (flat_flat (seen_faults w) (seen_parts (block.locals ++ seen)) (equation_faults w (block.locals ++ seen)) (λ e. refl) block.body)
+
+-- a block's own faults, and then those of its equations
+pub inner_noted : (w : Judging) (seen inside : List Decl) (block : b.Block) (locals : List Decl) (body items : List Equation) (first o q : Option Fault)
+    → inside ≡ block.locals ++ seen → locals ≡ block.locals → body ≡ block.body → items ≡ block.body
+    → o ≡ earlier_of first (earliest (faults_at w inside (Block locals (map equation_case body)))) → q ≡ earlier_of o (earliest (flat_map (equation_faults w inside) items))
+    → q ≡ earlier_of first (earliest (inner_faults w seen block))
+inner_noted w seen inside block locals body items first o q e l b i g h =
+    noted_both (faults_at w inside (Block locals (map equation_case body))) (flat_map (equation_faults w inside) items) first o q g h
+    ∙ ap (λ t. earlier_of first (earliest t))
+    (ap (λ ds. faults_at w ds (Block locals (map equation_case body)) ++ flat_map (equation_faults w ds) items) e
+    ∙ (ap (λ ls. faults_at w (block.locals ++ seen) (Block ls (map equation_case body)) ++ flat_map (equation_faults w (block.locals ++ seen)) items) l
+    ∙ (ap (λ es. faults_at w (block.locals ++ seen) (Block block.locals (map equation_case es)) ++ flat_map (equation_faults w (block.locals ++ seen)) items) b
+    ∙ (ap (λ es. faults_at w (block.locals ++ seen) (Block block.locals (map equation_case block.body)) ++ flat_map (equation_faults w (block.locals ++ seen)) es) i
+    ∙ sym (inner_faults-is w seen block)))))
 
 pub escape_faults-is : (w : Judging) (seen : List Decl) (strong : Bool) (states : List State) (es : List Escape)
     → escape_faults w seen strong states es ≡ flat_map (λ e. faults_at w seen (Transition strong (state_names states) e)) es

@@ -8,6 +8,7 @@ pub mod Defined
 pub mod Walk
 pub mod Tags
 pub mod Lefts
+pub mod Demands
 pub mod Types
 pub mod Scene
 pub mod CallGraph

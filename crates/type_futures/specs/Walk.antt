@@ -5,6 +5,7 @@ use Rattle.hept_ast.specs.Faults.{Fault, Judging, is_strong, part_faults}
 use Rattle.hept_ast.specs.Parts.{Part}
 use Rattle.hept_ast.specs.SeenParts.{SeenPart, seen_block, seen_escapes, seen_parts, seen_state}
 use Rattle.hept_ast.specs.declared.tree.Block.{Block}
+use Rattle.hept_ast.specs.declared.tree.Branch.{Branch}
 use Rattle.hept_ast.specs.declared.tree.Decl.{Decl}
 use Rattle.hept_ast.specs.declared.tree.Equation.{Equation}
 use Rattle.hept_ast.specs.declared.tree.Escape.{Escape}
@@ -30,6 +31,9 @@ equation_faults w seen e = flat_map (seen_faults w) (seen_parts seen e)
 -- the faults of a block and of all parts inside it
 unfoldable pub inner_faults : Judging → (seen : List Decl) → Block → List Fault
 inner_faults w seen block = flat_map (seen_faults w) (seen_block seen block)
+
+unfoldable pub branch_faults : Judging → (seen : List Decl) → Branch → List Fault
+branch_faults w seen b = inner_faults w seen b.block
 
 unfoldable pub escape_faults : Judging → (seen : List Decl) → (strong : Bool) → List State → List Escape → List Fault
 escape_faults w seen strong states es = flat_map (seen_faults w) (seen_escapes seen strong states es)
