@@ -6,3 +6,4 @@ pub mod Again
 pub mod CaseLists
 pub mod Alike
 pub mod Judged
+pub mod Operands

@@ -9,3 +9,4 @@ pub mod Types
 pub mod Scene
 pub mod CallGraph
 pub mod Fits
+pub mod Judgings

@@ -1,0 +1,52 @@
+-- What operands give, arguments and branches among them, as lists.
+use Rattle.std.specs.Prelude.{ℕ, Bool, ◌&&◌, ◌==◌, List, [], ◌∷◌, ◌++◌, length, map, Option, None, Some}
+use Rattle.std.specs.List.{flat_map, list_all, list_any}
+use Rattle.hept_ast.specs.Types.{Fit, Untyped, call_fit, same_tag, same_types, types_of}
+use Rattle.hept_ast.specs.Faults.{Duplicate, Fault, Judged, Judging, Recursive, UnknownName, branch_fit, calls_lead, fault, judge_expr, judged, unknown_tag}
+use Rattle.hept_ast.specs.declared.tree.Decl.{Decl}
+use Rattle.hept_ast.specs.declared.tree.Expr.{Expr}
+use Rattle.hept_ast.specs.declared.tree.MergeBranch.{MergeBranch}
+use Rattle.hept_ast.specs.declared.tree.Node.{Node}
+use Rattle.hept_ast.specs.declared.tree.Tag.{Tag}
+use Rattle.hept_ast.specs.declared.tree.Ty.{Ty}
+use Rattle.type_futures.specs.Fits.{given}
+
+abbrev pub types_given : Judged (List Ty) → Option (List Ty)
+types_given j = j.types
+
+abbrev pub faults_found : Judged (List Ty) → List Fault
+faults_found j = j.faults
+
+-- operands by what each gives
+abbrev pub operands : List (Judged (List Ty)) → Judged (List (List Ty))
+operands js = record { types = given (map types_given js); faults = flat_map faults_found js }
+
+abbrev pub args_judged : Judging → List Expr → Judged (List (List Ty))
+args_judged w args = operands (map (judge_expr w) args)
+
+-- a branch of a merge, by whether an earlier one has its tag
+abbrev pub branch_judged : Judging → Option Ty → (again : Bool) → MergeBranch → Judged (List Ty)
+branch_judged w on again b = judged b.place.0 (fault b.place.0 UnknownName (unknown_tag w b.tag) ++ fault b.place.0 Duplicate again) (judge_expr w b.value) (branch_fit w b.tag on)
+
+abbrev pub each_branch : Judging → Option Ty → (earlier : List Tag) → List MergeBranch → List (Judged (List Ty))
+each_branch w on earlier [] = []
+each_branch w on earlier (b ∷ bs) = branch_judged w on (list_any (same_tag b.tag) earlier) b ∷ each_branch w on (b.tag ∷ earlier) bs
+
+abbrev pub branches_judged : Judging → Option Ty → List MergeBranch → Judged (List (List Ty))
+branches_judged w on bs = operands (each_branch w on [] bs)
+
+-- ---- calls
+
+-- whether arguments are of the types of inputs
+abbrev pub takes : List Decl → List (List Ty) → Bool
+takes inputs ts = same_types (types_of inputs) (flat_map (λ t. t) ts) && list_all (λ t. length t == 1) ts
+
+-- what a call of a node or of an undeclared one gives
+abbrev pub call_gives : (Fit → Fit) → Option Node → List (List Ty) → Fit
+call_gives give None ts = Untyped
+call_gives give (Some g) ts = give (call_fit g ts)
+
+-- the faults of a call's own
+abbrev pub call_faults : Judging → ℕ → Option Node → List Fault → List Fault
+call_faults w p None own = record { place = p; kind = UnknownName } ∷ own
+call_faults w p (Some g) own = fault p Recursive (calls_lead w.nodes g.name w.node.name) ++ own
