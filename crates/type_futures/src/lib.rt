@@ -1,9 +1,11 @@
 //! The static rules of names and types.
 #![tactic(auto)]
 
+mod calls;
 mod cases;
 mod choice;
 mod definitions;
+mod divisors;
 mod expressions;
 mod fits;
 mod found;
