@@ -7,3 +7,4 @@ pub mod CaseLists
 pub mod Alike
 pub mod Judged
 pub mod Operands
+pub mod Arguments

@@ -1,15 +1,16 @@
 -- What operands give, arguments and branches among them, as lists.
-use Rattle.std.specs.Prelude.{ℕ, Bool, ◌&&◌, ◌==◌, List, [], ◌∷◌, ◌++◌, length, map, Option, None, Some}
+use Rattle.std.specs.Prelude.{ℕ, Bool, true, false, ◌&&◌, ◌==◌, if◌then◌else◌, slice_get, List, [], ◌∷◌, ◌++◌, length, map, Option, None, Some}
 use Rattle.std.specs.List.{flat_map, list_all, list_any}
-use Rattle.hept_ast.specs.Types.{Fit, Untyped, call_fit, same_tag, same_types, types_of}
-use Rattle.hept_ast.specs.Faults.{Duplicate, Fault, Judged, Judging, Recursive, UnknownName, branch_fit, calls_lead, fault, judge_expr, judged, unknown_tag}
+use Rattle.std.specs.Option.{option_map_or}
+use Rattle.hept_ast.specs.Types.{Fit, Untyped, async_fit, call_fit, fits_if, same_tag, same_types, types_of}
+use Rattle.hept_ast.specs.Faults.{Duplicate, Fault, Judged, Judging, NestedAsync, Recursive, nested, UnknownName, branch_fit, calls_lead, fault, judge_expr, judged, unknown_tag}
 use Rattle.hept_ast.specs.declared.tree.Decl.{Decl}
 use Rattle.hept_ast.specs.declared.tree.Expr.{Expr}
 use Rattle.hept_ast.specs.declared.tree.MergeBranch.{MergeBranch}
 use Rattle.hept_ast.specs.declared.tree.Node.{Node}
 use Rattle.hept_ast.specs.declared.tree.Tag.{Tag}
 use Rattle.hept_ast.specs.declared.tree.Ty.{Ty}
-use Rattle.type_futures.specs.Fits.{given}
+use Rattle.type_futures.specs.Fits.{given, is_one}
 
 abbrev pub types_given : Judged (List Ty) → Option (List Ty)
 types_given j = j.types
@@ -50,3 +51,34 @@ call_gives give (Some g) ts = give (call_fit g ts)
 abbrev pub call_faults : Judging → ℕ → Option Node → List Fault → List Fault
 call_faults w p None own = record { place = p; kind = UnknownName } ∷ own
 call_faults w p (Some g) own = fault p Recursive (calls_lead w.nodes g.name w.node.name) ++ own
+
+abbrev pub inputs_of : Option Node → List Decl
+inputs_of None = []
+inputs_of (Some g) = g.inputs
+
+-- the same, by whether the arguments are taken
+abbrev pub call_if : (is_async : Bool) → Option Node → (taken : Bool) → Fit
+call_if is_async None taken = Untyped
+call_if true (Some g) taken = async_fit (fits_if taken (types_of g.outputs))
+call_if false (Some g) taken = fits_if taken (types_of g.outputs)
+
+abbrev pub nested_fault : Judging → ℕ → (is_async : Bool) → List Fault
+nested_fault w p is_async = if is_async then fault p NestedAsync (nested w) else []
+
+-- the faults of a call's own, by whether it is made by async
+abbrev pub own_faults : Judging → ℕ → (is_async : Bool) → Option Node → List Fault
+own_faults w p is_async g = call_faults w p g (nested_fault w p is_async)
+
+-- whether an argument is of the type of the input at its position
+abbrev pub is_input : List Decl → ℕ → List Ty → Bool
+is_input inputs i t = option_map_or (λ d. is_one d.ty t) (slice_get inputs i) false
+
+-- whether arguments are of the types of the first inputs
+abbrev pub takes_first : List Decl → List (List Ty) → Bool
+takes_first ds [] = true
+takes_first [] (t ∷ ts) = false
+takes_first (d ∷ ds) (t ∷ ts) = is_one d.ty t && takes_first ds ts
+
+abbrev pub also_taken : Option Bool → Option Bool → Option Bool
+also_taken (Some a) (Some b) = Some (a && b)
+also_taken _ _ = None

@@ -17,8 +17,8 @@ mod pieces;
 mod queues;
 mod reads;
 mod scene;
-mod tagged;
 mod sets;
+mod tagged;
 #[cfg(test)]
 mod tests;
 mod types;
