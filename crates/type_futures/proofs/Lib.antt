@@ -4,6 +4,11 @@ pub mod Overs
 pub mod Chosen
 pub mod Again
 pub mod CaseLists
+pub mod OwnSeen
+pub mod Swaps
+pub mod Walks
+pub mod NameSets
+pub mod LeftTypes
 pub mod Alike
 pub mod Judged
 pub mod Operands

@@ -5,6 +5,9 @@ pub mod Gathered
 pub mod Chosen
 pub mod Typing
 pub mod Defined
+pub mod Walk
+pub mod Tags
+pub mod Lefts
 pub mod Types
 pub mod Scene
 pub mod CallGraph

@@ -73,8 +73,7 @@ pub(crate) fn note_second_states(
 {
     let mut names = Vec::new(alloc);
     push_labels(&mut names, states)?;
-    note_seconds(found, names.as_slice());
-    Ok(())
+    note_seconds(alloc, found, names.as_slice())
 }
 
 fn is_gap(seen: &[&Decl], own: &[&Name], name: &Name) -> bool

@@ -11,7 +11,9 @@ mod fits;
 mod found;
 mod gathered;
 mod labels;
+mod lefts;
 mod limits;
+mod name_set;
 mod names;
 mod pieces;
 mod queues;
@@ -19,6 +21,7 @@ mod reads;
 mod scene;
 mod sets;
 mod tagged;
+mod tags;
 #[cfg(test)]
 mod tests;
 mod types;

@@ -99,7 +99,7 @@ pub(crate) fn has_tags(held: Type<'_>) -> bool
     }
 }
 
-fn future_of(held: Type<'_>) -> Type<'_>
+pub(crate) fn future_of(held: Type<'_>) -> Type<'_>
     ensures { type_in result ≡ future_of (type_in held.entry) }
 {
     match held {
