@@ -1,18 +1,12 @@
 -- The faults of a call's own, and arguments as they are taken one after the other.
-use Rattle.std.proofs.Common.{◌≡◌, ℕ, zero, suc, ◌+◌, Bool, true, false, List, [], ◌∷◌, ◌++◌, length, refl, sym, ◌∙◌, ap, arith, append-nil, map}
-use Rattle.std.specs.Prelude.{Option, None, Some, ◌&&◌, ◌||◌, ◌==◌, slice_get}
-use Rattle.std.specs.List.{flat_map, list_all}
-use Rattle.std.specs.Option.{option_map}
-use Rattle.std.proofs.lemmas.Bool.Decides.{nat_tests}
+use Rattle.std.proofs.Common.{◌≡◌, ℕ, Bool, List, [], ◌∷◌, ◌++◌, refl, sym, ◌∙◌, ap, append-nil}
+use Rattle.std.specs.Prelude.{Option, None, Some, ◌||◌}
 use Rattle.std.proofs.lemmas.List.Folds.{list_all-map}
-use Rattle.hept_ast.specs.Types.{same_type, same_types, types_of}
 use Rattle.hept_ast.specs.Faults.{Fault, Judging, Recursive, calls_lead, fault}
 use Rattle.hept_ast.specs.Limits.{earlier_of, earliest}
-use Rattle.hept_ast.specs.declared.tree.Decl.{Decl}
 use Rattle.hept_ast.specs.declared.tree.Node.{Node}
-use Rattle.hept_ast.specs.declared.tree.Ty.{Ty}
-use Rattle.type_futures.specs.Fits.{is_one, stands}
-use Rattle.type_futures.specs.Judgings.{call_faults, is_input, takes, takes_first}
+use Rattle.type_futures.specs.Fits.{stands}
+use Rattle.type_futures.specs.Judgings.{call_faults}
 use Rattle.type_futures.proofs.Noting.{noted_both}
 
 pub ruleset all_of_mapped = (list_all-map)

@@ -2,15 +2,18 @@
 use Rattle.std.specs.Prelude.{ℕ, Bool, true, false, ◌&&◌, ◌==◌, if◌then◌else◌, slice_get, List, [], ◌∷◌, ◌++◌, length, map, Option, None, Some}
 use Rattle.std.specs.List.{flat_map, list_all, list_any}
 use Rattle.std.specs.Option.{option_map_or}
-use Rattle.hept_ast.specs.Types.{Fit, Untyped, async_fit, call_fit, fits_if, same_tag, same_types, types_of}
-use Rattle.hept_ast.specs.Faults.{Duplicate, Fault, Judged, Judging, NestedAsync, Recursive, nested, UnknownName, branch_fit, calls_lead, fault, judge_expr, judged, unknown_tag}
+use Rattle.hept_ast.specs.Types.{Fit, Misfit, Untyped, has_tags, async_fit, call_fit, fits_if, same_tag, same_types, types_of}
+use Rattle.hept_ast.specs.Faults.{Duplicate, Fault, NotDefined, read_faults, Judged, Judging, NestedAsync, Recursive, nested, UnknownName, branch_fit, calls_lead, fault, judge_expr, judged, unknown_tag}
 use Rattle.hept_ast.specs.declared.tree.Decl.{Decl}
 use Rattle.hept_ast.specs.declared.tree.Expr.{Expr}
 use Rattle.hept_ast.specs.declared.tree.MergeBranch.{MergeBranch}
 use Rattle.hept_ast.specs.declared.tree.Node.{Node}
+use Rattle.hept_ast.specs.Texts.{Name}
 use Rattle.hept_ast.specs.declared.tree.Tag.{Tag}
+use Rattle.hept_ast.specs.declared.tree.TypeDec.{TypeDec}
 use Rattle.hept_ast.specs.declared.tree.Ty.{Ty}
 use Rattle.type_futures.specs.Fits.{given, is_one}
+use Rattle.type_futures.specs.Tags.{is_lacking}
 
 abbrev pub types_given : Judged (List Ty) → Option (List Ty)
 types_given j = j.types
@@ -25,9 +28,33 @@ operands js = record { types = given (map types_given js); faults = flat_map fau
 abbrev pub args_judged : Judging → List Expr → Judged (List (List Ty))
 args_judged w args = operands (map (judge_expr w) args)
 
+-- ---- `when` and `merge`
+
+abbrev pub when_faults : Judging → ℕ → Tag → Name → List Fault
+when_faults w p t x = read_faults w p x ++ fault p UnknownName (unknown_tag w t)
+
+abbrev pub tag_in : MergeBranch → Tag
+tag_in b = b.tag
+
+abbrev pub is_lacking_if : List TypeDec → List MergeBranch → Option Ty → Bool
+is_lacking_if types bs None = false
+is_lacking_if types bs (Some on) = is_lacking types tag_in bs on
+
+abbrev pub merge_faults : Judging → ℕ → Name → Option Ty → List MergeBranch → List Fault
+merge_faults w p x on bs = read_faults w p x ++ fault p NotDefined (is_lacking_if w.types bs on)
+
+-- what a merge gives, by whether its branches are of one type
+abbrev pub merge_with : Option Ty → Fit → Fit
+merge_with None alike = Untyped
+merge_with (Some on) alike = if has_tags on then alike else Misfit
+
+-- a branch's own faults, by whether an earlier one has its tag
+abbrev pub tag_faults : Judging → (again : Bool) → MergeBranch → List Fault
+tag_faults w again b = fault b.place.0 UnknownName (unknown_tag w b.tag) ++ fault b.place.0 Duplicate again
+
 -- a branch of a merge, by whether an earlier one has its tag
 abbrev pub branch_judged : Judging → Option Ty → (again : Bool) → MergeBranch → Judged (List Ty)
-branch_judged w on again b = judged b.place.0 (fault b.place.0 UnknownName (unknown_tag w b.tag) ++ fault b.place.0 Duplicate again) (judge_expr w b.value) (branch_fit w b.tag on)
+branch_judged w on again b = judged b.place.0 (tag_faults w again b) (judge_expr w b.value) (branch_fit w b.tag on)
 
 abbrev pub each_branch : Judging → Option Ty → (earlier : List Tag) → List MergeBranch → List (Judged (List Ty))
 each_branch w on earlier [] = []

@@ -13,6 +13,7 @@ mod gathered;
 mod labels;
 mod lefts;
 mod limits;
+mod merges;
 mod name_set;
 mod names;
 mod pieces;
