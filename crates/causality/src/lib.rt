@@ -1,0 +1,10 @@
+//! Initialisation and causality: what may be undefined, what a variable reads at its own instant, and cycles of such reads.
+#![tactic(auto)]
+
+mod flows;
+mod graph;
+mod laws;
+mod reads;
+
+pub use graph::find_cycle;
+pub use laws::cycle_laws;
