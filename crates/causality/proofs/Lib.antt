@@ -1,3 +1,5 @@
 pub mod Ranks
 pub mod LowestOf
+pub mod Lists
 pub mod FlowsOf
+pub mod Rounds

@@ -1,3 +1,4 @@
 pub mod Graph
 pub mod Lowest
 pub mod Flows
+pub mod Rounds

@@ -2,8 +2,10 @@
 #![tactic(auto)]
 
 mod flows;
+mod grades;
 mod graph;
 mod laws;
+mod names;
 mod reads;
 
 pub use graph::find_cycle;

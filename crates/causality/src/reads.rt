@@ -13,6 +13,15 @@ fn push_name<'a>(out: &mut Vec<&'a Name>, x: &'a Name) -> Result<(), Memory>
     }
 }
 
+pub(crate) fn push_all<'a>(out: &mut Vec<&'a Name>, more: &'a [Name]) -> Result<(), Memory>
+    ensures { OnOk result (map (λ r. r.now) out.new.items ≡ map (λ r. r.now) out.old.items ++ more.now) }
+{
+    for x in more {
+        push_name(out, x)?;
+    }
+    Ok(())
+}
+
 pub(crate) fn push_names<'a>(out: &mut Vec<&'a Name>, more: &[&'a Name]) -> Result<(), Memory>
     ensures { OnOk result (map (λ r. r.now) out.new.items ≡ map (λ r. r.now) out.old.items ++ map (λ r. r.now) more.now) }
 {
