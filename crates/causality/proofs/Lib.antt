@@ -3,3 +3,4 @@ pub mod LowestOf
 pub mod Lists
 pub mod FlowsOf
 pub mod Rounds
+pub mod DemandsOf

@@ -1,5 +1,5 @@
 -- The least of some places, and how it goes on over lists.
-use Rattle.std.proofs.Common.{add-one, zero, suc, ◌+◌, ◌<◌, length, take, get_or, ◌≡◌, ℕ, min, List, [], ◌∷◌, ◌++◌, Some, None, refl, sym, ◌∙◌, ap, arith, append_assoc, append-nil, Bool, true, false, if◌then◌else◌}
+use Rattle.std.proofs.Common.{add-one, zero, suc, ◌+◌, ◌<◌, length, take, get_or, map, ◌≡◌, ℕ, min, List, [], ◌∷◌, ◌++◌, Some, None, refl, sym, ◌∙◌, ap, arith, append_assoc, append-nil, Bool, true, false, if◌then◌else◌}
 use Rattle.std.specs.Prelude.{Option}
 use Rattle.std.specs.List.{flat_map}
 use Rattle.std.proofs.lemmas.Grind.{flat_map-append}
@@ -42,6 +42,21 @@ pub lowest_step : {X : Type 0} (f : X → List ℕ) (xs : List X) (i : ℕ) (d x
     → i < length xs → o ≡ lower first (lowest (flat_map f (take i xs))) → x ≡ get_or xs i d → p ≡ lower o (lowest (f x)) → p ≡ lower first (lowest (flat_map f (take (i + 1) xs)))
 lowest_step f xs i d x first o p below e g h =
     rw (add-one, flat_take f xs i d below, lowest-append, ← lower-assoc, ← e, ← g) h
+
+flat_mapped : {X Y Z : Type 0} (f : Y → List Z) (g : X → Y) (xs : List X) → flat_map f (map g xs) ≡ flat_map (λ x. f (g x)) xs
+flat_mapped f g [] = refl
+flat_mapped f g (x ∷ xs) = ap (λ t. f (g x) ++ t) (flat_mapped f g xs)
+
+-- the same where the list is mapped
+pub lowest_mapped : {X Y : Type 0} (f : Y → List ℕ) (g : X → Y) (xs : List X) (i : ℕ) (d x : X) (first o p : Option ℕ)
+    → i < length xs → o ≡ lower first (lowest (flat_map f (map g (take i xs)))) → x ≡ get_or xs i d → p ≡ lower o (lowest (f (g x))) → p ≡ lower first (lowest (flat_map f (map g (take (i + 1) xs))))
+lowest_mapped f g xs i d x first o p below e same h =
+    lowest_step (λ y. f (g y)) xs i d x first o p below (e ∙ ap (λ t. lower first (lowest t)) (flat_mapped f g (take i xs))) same h
+    ∙ ap (λ t. lower first (lowest t)) (sym (flat_mapped f g (take (i + 1) xs)))
+
+-- the places of one list, and then those of another
+pub lowest_both : (ps qs : List ℕ) (first o p : Option ℕ) → o ≡ lower first (lowest ps) → p ≡ lower o (lowest qs) → p ≡ lower first (lowest (ps ++ qs))
+lowest_both ps qs first o p e h = rw (lowest-append, ← lower-assoc, ← e) h
 
 pub flat_flat : {X Y : Type 0} (f : Y → List ℕ) (g : X → List Y) (xs : List X) → flat_map f (flat_map g xs) ≡ flat_map (λ x. flat_map f (g x)) xs
 flat_flat f g [] = refl

@@ -2,3 +2,4 @@ pub mod Graph
 pub mod Lowest
 pub mod Flows
 pub mod Rounds
+pub mod Demands

@@ -6,7 +6,7 @@ ghost use Rattle.causality.specs.Flows.{flow_of};
 ghost use Rattle.causality.specs.Rounds.{AreNil, is_nil, next_nil};
 
 use crate::flows::Flow;
-use crate::names::is_among;
+use node_text::is_listed;
 use crate::reads::push_all;
 use hept_ast::{Expr, Form, Memory, Name};
 use std::alloc::Global;
@@ -18,7 +18,7 @@ pub(crate) fn may_be_nil(e: &Expr, nil: &[&Name]) -> bool
 {
     match &e.form {
         Form::Const(_) => false,
-        Form::Var(x) => is_among(x, nil),
+        Form::Var(x) => is_listed(x, nil),
         Form::Last(_) => false,
         Form::Unary(_, a) => may_be_nil(a.get(), nil),
         Form::Binary(_, a, b) => may_be_nil(a.get(), nil) || may_be_nil(b.get(), nil),

@@ -1,12 +1,13 @@
 //! Initialisation and causality: what may be undefined, what a variable reads at its own instant, and cycles of such reads.
 #![tactic(auto)]
 
+mod demands;
 mod flows;
 mod grades;
 mod graph;
 mod laws;
-mod names;
 mod reads;
+mod unmet;
 
 pub use graph::find_cycle;
 pub use laws::cycle_laws;
