@@ -4,3 +4,4 @@ pub mod Lists
 pub mod FlowsOf
 pub mod Rounds
 pub mod DemandsOf
+pub mod SeenDemands

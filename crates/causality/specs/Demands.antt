@@ -1,10 +1,13 @@
 -- The demands of a node, as they are asked.
-use Rattle.std.specs.Prelude.{ℕ, List, [], ◌++◌, map, if◌then◌else◌, is_some}
+use Rattle.std.specs.Prelude.{ℕ, List, [], ◌++◌, Option, None, Some, if◌then◌else◌, is_some}
 use Rattle.std.specs.List.{flat_map}
 use Rattle.hept_ast.specs.Texts.{Name, is_in}
 use Rattle.hept_ast.specs.Initial.{Grades, unmet_decl, unmet_part}
-use Rattle.hept_ast.specs.SeenParts.{SeenPart}
+use Rattle.hept_ast.specs.SeenParts.{SeenPart, seen_parts, seen_block, seen_state}
 use Rattle.hept_ast.specs.declared.tree.Decl.{Decl}
+use Rattle.hept_ast.specs.declared.tree.Block.{Block}
+use Rattle.hept_ast.specs.declared.tree.Equation.{Equation}
+use Rattle.hept_ast.specs.declared.tree.State.{State}
 
 -- the grades by which these variables may be undefined
 abbrev pub grades_from : List Name → Grades
@@ -17,3 +20,18 @@ unmet_last g d = if is_some d.init then unmet_decl g d else []
 -- a part, where a node declares these itself
 abbrev pub unmet_seen : Grades → (own : List Decl) → SeenPart → List ℕ
 unmet_seen g own q = unmet_part g (q.inner ++ own) q.part
+
+-- a variable, where it is declared
+abbrev pub unmet_declared : Grades → Option Decl → List ℕ
+unmet_declared g None = []
+unmet_declared g (Some d) = unmet_decl g d
+
+-- all parts inside an equation, a block or a state, where the blocks around declare these
+abbrev pub unmet_in_equation : Grades → (own inner : List Decl) → Equation → List ℕ
+unmet_in_equation g own inner e = flat_map (unmet_seen g own) (seen_parts inner e)
+
+abbrev pub unmet_in_block : Grades → (own inner : List Decl) → Block → List ℕ
+unmet_in_block g own inner block = flat_map (unmet_seen g own) (seen_block inner block)
+
+abbrev pub unmet_in_state : Grades → (own inner : List Decl) → List State → State → List ℕ
+unmet_in_state g own inner states q = flat_map (unmet_seen g own) (seen_state inner states q)

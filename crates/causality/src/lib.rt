@@ -6,6 +6,7 @@ mod flows;
 mod grades;
 mod graph;
 mod laws;
+mod parts;
 mod reads;
 mod unmet;
 

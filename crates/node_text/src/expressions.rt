@@ -1,12 +1,13 @@
 //! All expressions of a node, collected in the order of the text.
-ghost use Rattle.std.specs.Prelude.{◌≡◌, ◌++◌, ◌∷◌, [], map, OnOk};
+ghost use Rattle.std.specs.Prelude.{◌≡◌, ◌++◌, ◌∷◌, [], map, IfOk, OnOk};
 ghost use Rattle.std.specs.List.{flat_map};
-ghost use Rattle.hept_ast.specs.Parts.{inside};
+ghost use Rattle.hept_ast.specs.Parts.{expressions, inside};
 ghost use Rattle.hept_ast.specs.InnerParts.{expressions_in};
 ghost use Rattle.node_text.specs.Pieces.{piece_of};
 
-use crate::pieces::Piece;
-use hept_ast::{Expr, Form, Memory};
+use crate::pieces::{Piece, push_equations};
+use hept_ast::{Expr, Form, Memory, Node};
+use std::alloc::Global;
 
 fn push_expr<'a>(exprs: &mut Vec<&'a Expr>, e: &'a Expr) -> Result<(), Memory>
     ensures { OnOk result (map (λ r. r.now) exprs.new.items ≡ map (λ r. r.now) exprs.old.items ++ e.now ∷ []) }
@@ -94,4 +95,16 @@ pub fn push_expressions<'a>(
         push_of_piece(exprs, *piece)?;
     }
     Ok(())
+}
+
+/// All expressions of a node, in the order of the text.
+#[tactic(auto, using(hept_ast::proofs::WholeNode::whole_node))]
+pub fn node_expressions<'a>(alloc: Global, node: &'a Node) -> Result<Vec<&'a Expr>, Memory>
+    ensures { IfOk result (λ v. map (λ r. r.now) v.items ≡ expressions node.now) }
+{
+    let mut pieces = Vec::new(alloc);
+    push_equations(&mut pieces, node.block.body.as_slice())?;
+    let mut exprs = Vec::new(alloc);
+    push_expressions(&mut exprs, &pieces)?;
+    Ok(exprs)
 }
