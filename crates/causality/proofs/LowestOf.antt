@@ -58,6 +58,9 @@ lowest_mapped f g xs i d x first o p below e same h =
 pub lowest_both : (ps qs : List ℕ) (first o p : Option ℕ) → o ≡ lower first (lowest ps) → p ≡ lower o (lowest qs) → p ≡ lower first (lowest (ps ++ qs))
 lowest_both ps qs first o p e h = rw (lowest-append, ← lower-assoc, ← e) h
 
+pub lowest_joined : (ps qs : List ℕ) (first o : Option ℕ) → o ≡ lower first (lowest ps) → lower o (lowest qs) ≡ lower first (lowest (ps ++ qs))
+lowest_joined ps qs first o e = lowest_both ps qs first o (lower o (lowest qs)) e refl
+
 pub flat_flat : {X Y : Type 0} (f : Y → List ℕ) (g : X → List Y) (xs : List X) → flat_map f (flat_map g xs) ≡ flat_map (λ x. flat_map f (g x)) xs
 flat_flat f g [] = refl
 flat_flat f g (x ∷ xs) = flat_map-append f (g x) (flat_map g xs) ∙ ap (λ t. flat_map f (g x) ++ t) (flat_flat f g xs)

@@ -112,3 +112,122 @@ fn note_block_sets(
     note_outside(found, inner, own, sets.as_slice(), nil);
     Ok(())
 }
+
+/// Notes what the parts inside equations demand, where the blocks around declare these.
+#[cycle(demands)]
+#[tactic(auto, using(crate::proofs::LowestOf::lowest_of))]
+fn note_body<'a>(
+    alloc: Global,
+    found: &mut Unmet,
+    inner: &[&'a Decl],
+    own: &[&'a Decl],
+    body: &'a [Equation],
+    nil: &[&Name],
+) -> Result<(), Memory>
+    ensures { OnOk result (found.new ≡ lower found.old (lowest (flat_map (unmet_in_equation (grades_from (map (λ r. r.now) nil.now)) (map (λ r. r.now) own.now) (map (λ r. r.now) inner.now)) body.now))) }
+{
+    for equation in body {
+        note_equation(alloc, found, inner, own, equation, nil)?;
+    }
+    Ok(())
+}
+
+#[cycle(demands)]
+fn note_equation<'a>(
+    alloc: Global,
+    found: &mut Unmet,
+    inner: &[&'a Decl],
+    own: &[&'a Decl],
+    equation: &'a Equation,
+    nil: &[&Name],
+) -> Result<(), Memory>
+    ensures { OnOk result (found.new ≡ lower found.old (lowest (unmet_in_equation (grades_from (map (λ r. r.now) nil.now)) (map (λ r. r.now) own.now) (map (λ r. r.now) inner.now) equation.now))) }
+{
+    match equation {
+        Equation::Define { .. } => Ok(()),
+        Equation::Switch { on, branches, .. } => {
+            note_expr(found, on, nil);
+            note_branch_sets(alloc, found, inner, own, branches.as_slice(), nil)?;
+            note_branches(alloc, found, inner, own, branches.as_slice(), nil)
+        }
+        Equation::Reset { block, every, .. } => {
+            note_expr(found, every, nil);
+            note_block_sets(alloc, found, inner, own, block.get(), nil)?;
+            note_block(alloc, found, inner, own, block.get(), nil)
+        }
+        Equation::Automaton { states, .. } => {
+            note_state_sets(alloc, found, inner, own, states.as_slice(), nil)?;
+            note_states(alloc, found, inner, own, states.as_slice(), nil)
+        }
+    }
+}
+
+#[cycle(demands)]
+fn note_block<'a>(
+    alloc: Global,
+    found: &mut Unmet,
+    inner: &[&'a Decl],
+    own: &[&'a Decl],
+    block: &'a Block,
+    nil: &[&Name],
+) -> Result<(), Memory>
+    ensures { OnOk result (found.new ≡ lower found.old (lowest (unmet_in_block (grades_from (map (λ r. r.now) nil.now)) (map (λ r. r.now) own.now) (map (λ r. r.now) inner.now) block.now))) }
+{
+    note_lasts(found, block.locals.as_slice(), nil);
+    let inside = declared_inside(alloc, block.locals.as_slice(), inner)?;
+    note_body(alloc, found, inside.as_slice(), own, block.body.as_slice(), nil)
+}
+
+#[cycle(demands)]
+#[tactic(auto, using(crate::proofs::LowestOf::lowest_of))]
+fn note_branches<'a>(
+    alloc: Global,
+    found: &mut Unmet,
+    inner: &[&'a Decl],
+    own: &[&'a Decl],
+    branches: &'a [Branch],
+    nil: &[&Name],
+) -> Result<(), Memory>
+    ensures { OnOk result (found.new ≡ lower found.old (lowest (flat_map (λ b. unmet_in_block (grades_from (map (λ r. r.now) nil.now)) (map (λ r. r.now) own.now) (map (λ r. r.now) inner.now) b.block) branches.now))) }
+{
+    for branch in branches {
+        note_block(alloc, found, inner, own, &branch.block, nil)?;
+    }
+    Ok(())
+}
+
+#[cycle(demands)]
+#[tactic(auto, using(crate::proofs::LowestOf::lowest_of))]
+fn note_states<'a>(
+    alloc: Global,
+    found: &mut Unmet,
+    inner: &[&'a Decl],
+    own: &[&'a Decl],
+    states: &'a [State],
+    nil: &[&Name],
+) -> Result<(), Memory>
+    ensures { OnOk result (found.new ≡ lower found.old (lowest (flat_map (unmet_in_state (grades_from (map (λ r. r.now) nil.now)) (map (λ r. r.now) own.now) (map (λ r. r.now) inner.now) states.now) states.now))) }
+{
+    for state in states {
+        note_state(alloc, found, inner, own, state, states, nil)?;
+    }
+    Ok(())
+}
+
+#[cycle(demands)]
+fn note_state<'a>(
+    alloc: Global,
+    found: &mut Unmet,
+    inner: &[&'a Decl],
+    own: &[&'a Decl],
+    state: &'a State,
+    states: &'a [State],
+    nil: &[&Name],
+) -> Result<(), Memory>
+    ensures { OnOk result (found.new ≡ lower found.old (lowest (unmet_in_state (grades_from (map (λ r. r.now) nil.now)) (map (λ r. r.now) own.now) (map (λ r. r.now) inner.now) states.now state.now))) }
+{
+    note_block(alloc, found, inner, own, &state.block, nil)?;
+    note_escapes(found, state.weak.as_slice(), nil);
+    note_escapes(found, state.strong.as_slice(), nil);
+    Ok(())
+}
