@@ -5,3 +5,4 @@ pub mod FlowsOf
 pub mod Rounds
 pub mod DemandsOf
 pub mod SeenDemands
+pub mod Initialised

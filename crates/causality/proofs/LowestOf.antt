@@ -43,7 +43,7 @@ pub lowest_step : {X : Type 0} (f : X → List ℕ) (xs : List X) (i : ℕ) (d x
 lowest_step f xs i d x first o p below e g h =
     rw (add-one, flat_take f xs i d below, lowest-append, ← lower-assoc, ← e, ← g) h
 
-flat_mapped : {X Y Z : Type 0} (f : Y → List Z) (g : X → Y) (xs : List X) → flat_map f (map g xs) ≡ flat_map (λ x. f (g x)) xs
+pub flat_mapped : {X Y Z : Type 0} (f : Y → List Z) (g : X → Y) (xs : List X) → flat_map f (map g xs) ≡ flat_map (λ x. f (g x)) xs
 flat_mapped f g [] = refl
 flat_mapped f g (x ∷ xs) = ap (λ t. f (g x) ++ t) (flat_mapped f g xs)
 

@@ -6,6 +6,7 @@ use Rattle.hept_ast.specs.Initial.{Grades, unmet_decl, unmet_part}
 use Rattle.hept_ast.specs.SeenParts.{SeenPart, seen_parts, seen_block, seen_state}
 use Rattle.hept_ast.specs.declared.tree.Decl.{Decl}
 use Rattle.hept_ast.specs.declared.tree.Block.{Block}
+use Rattle.hept_ast.specs.declared.tree.Node.{Node}
 use Rattle.hept_ast.specs.declared.tree.Equation.{Equation}
 use Rattle.hept_ast.specs.declared.tree.State.{State}
 
@@ -35,3 +36,9 @@ unmet_in_block g own inner block = flat_map (unmet_seen g own) (seen_block inner
 
 abbrev pub unmet_in_state : Grades → (own inner : List Decl) → List State → State → List ℕ
 unmet_in_state g own inner states q = flat_map (unmet_seen g own) (seen_state inner states q)
+
+-- all parts of a node
+abbrev pub unmet_parts : Grades → Node → List ℕ
+unmet_parts g node =
+    flat_map (unmet_last g) node.outputs ++ flat_map (unmet_last g) node.block.locals
+    ++ flat_map (unmet_in_equation g (node.block.locals ++ node.outputs ++ node.inputs) []) node.block.body

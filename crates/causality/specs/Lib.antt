@@ -3,3 +3,4 @@ pub mod Lowest
 pub mod Flows
 pub mod Rounds
 pub mod Demands
+pub mod Initialised

@@ -5,10 +5,12 @@ mod demands;
 mod flows;
 mod grades;
 mod graph;
+mod initial;
 mod laws;
 mod parts;
 mod reads;
 mod unmet;
 
 pub use graph::find_cycle;
+pub use initial::{InitFault, check_initial};
 pub use laws::cycle_laws;

@@ -116,7 +116,7 @@ fn note_block_sets(
 /// Notes what the parts inside equations demand, where the blocks around declare these.
 #[cycle(demands)]
 #[tactic(auto, using(crate::proofs::LowestOf::lowest_of))]
-fn note_body<'a>(
+pub(crate) fn note_body<'a>(
     alloc: Global,
     found: &mut Unmet,
     inner: &[&'a Decl],
