@@ -1,9 +1,13 @@
 //! What is declared around a part of a node's text.
 ghost use Rattle.std.specs.Prelude.{◌≡◌, ◌++◌, ◌∷◌, [], IfOk, OnOk, map};
 ghost use Rattle.std.specs.Option.{option_copied};
-ghost use Rattle.hept_ast.specs.Parts.{declaration};
+ghost use Rattle.std.specs.List.{flat_map};
+ghost use Rattle.hept_ast.specs.Parts.{declaration, variables};
+ghost use Rattle.hept_ast.specs.Texts.{names};
+ghost use Rattle.node_text.specs.Pieces.{declared_names, piece_of};
 
-use crate::names::is_same;
+use crate::names::{is_same, push_name};
+use crate::pieces::{Piece, push_equations};
 use hept_ast::{Decl, Memory, Name, Node};
 use std::alloc::Global;
 
@@ -79,4 +83,50 @@ pub fn own_declarations<'a>(alloc: Global, node: &'a Node) -> Result<Vec<&'a Dec
     push_declared(&mut seen, node.outputs.as_slice())?;
     push_declared(&mut seen, node.inputs.as_slice())?;
     Ok(seen)
+}
+
+fn push_declared_names<'a>(out: &mut Vec<&'a Name>, decls: &'a [Decl]) -> Result<(), Memory>
+    ensures { OnOk result (map (λ r. r.now) out.new.items ≡ map (λ r. r.now) out.old.items ++ names decls.now) }
+{
+    for decl in decls {
+        push_name(out, &decl.name)?;
+    }
+    Ok(())
+}
+
+fn push_of_piece<'a>(out: &mut Vec<&'a Name>, piece: Piece<'a>) -> Result<(), Memory>
+    ensures { OnOk result (map (λ r. r.now) out.new.items ≡ map (λ r. r.now) out.old.items ++ declared_names (piece_of piece.entry)) }
+{
+    match piece {
+        Piece::Block(locals, _) => push_declared_names(out, locals),
+        Piece::Plain(_, _, _) => Ok(()),
+        Piece::Switch(_, _, _) => Ok(()),
+        Piece::Reset(_, _, _) => Ok(()),
+        Piece::Automaton(_, _) => Ok(()),
+        Piece::Transition(_, _, _) => Ok(()),
+    }
+}
+
+fn push_of_pieces<'a>(out: &mut Vec<&'a Name>, pieces: &[Piece<'a>]) -> Result<(), Memory>
+    ensures { OnOk result (map (λ r. r.now) out.new.items ≡ map (λ r. r.now) out.old.items ++ flat_map declared_names (map piece_of pieces.now)) }
+{
+    for piece in pieces {
+        push_of_piece(out, *piece)?;
+    }
+    Ok(())
+}
+
+/// All variables of a node, those of its blocks included, in the order of the text.
+#[tactic(auto, using(crate::proofs::Variables::variables_of))]
+pub fn node_variables<'a>(alloc: Global, node: &'a Node) -> Result<Vec<&'a Name>, Memory>
+    ensures { IfOk result (λ v. map (λ r. r.now) v.items ≡ names (variables node.now)) }
+{
+    let mut pieces = Vec::new(alloc);
+    push_equations(&mut pieces, node.block.body.as_slice())?;
+    let mut out = Vec::new(alloc);
+    push_declared_names(&mut out, node.inputs.as_slice())?;
+    push_declared_names(&mut out, node.outputs.as_slice())?;
+    push_declared_names(&mut out, node.block.locals.as_slice())?;
+    push_of_pieces(&mut out, &pieces)?;
+    Ok(out)
 }

@@ -4,7 +4,7 @@ ghost use Rattle.std.specs.List.{flat_map, list_any};
 ghost use Rattle.hept_ast.specs.Parts.{block_sets, from_outside, sets_of};
 ghost use Rattle.hept_ast.specs.Texts.{is_in, names, same};
 
-use crate::names::is_same;
+use crate::names::{is_same, push_name, push_names};
 use hept_ast::{Block, Branch, Decl, Equation, Memory, Name, State};
 use std::alloc::Global;
 
@@ -19,24 +19,6 @@ pub fn is_declared_in(name: &Name, decls: &[Decl]) -> bool
     ensures { result ≡ is_in name.now (names decls.now) }
 {
     is_name_of_any(name, decls)
-}
-
-fn push_name<'a>(names: &mut Vec<&'a Name>, name: &'a Name) -> Result<(), Memory>
-    ensures { OnOk result (map (λ r. r.now) names.new.items ≡ map (λ r. r.now) names.old.items ++ name.now ∷ []) }
-{
-    match names.push(name) {
-        Ok(()) => Ok(()),
-        Err(_) => Err(Memory),
-    }
-}
-
-fn push_names<'a>(names: &mut Vec<&'a Name>, more: &'a [Name]) -> Result<(), Memory>
-    ensures { OnOk result (map (λ r. r.now) names.new.items ≡ map (λ r. r.now) names.old.items ++ more.now) }
-{
-    for name in more {
-        push_name(names, name)?;
-    }
-    Ok(())
 }
 
 fn push_where<'a>(names: &mut Vec<&'a Name>, name: &'a Name, test: bool) -> Result<(), Memory>
