@@ -4,3 +4,4 @@ pub mod Flows
 pub mod Rounds
 pub mod Demands
 pub mod Initialised
+pub mod Vertices

@@ -4,8 +4,9 @@ ghost use Rattle.std.specs.List.{flat_map};
 ghost use Rattle.hept_ast.specs.Causal.{reads};
 ghost use Rattle.causality.specs.Flows.{flow_of, flows_of, flows_of_all, node_flows, strong_reads};
 
-use crate::reads::{push_names, push_reads};
+use crate::reads::push_reads;
 use hept_ast::{Branch, Equation, Escape, Expr, Memory, Name, Node, State};
+use node_text::push_listed;
 use std::alloc::Global;
 
 /// A plain equation: what it defines, by which expression, and what it reads at its own instant, with
@@ -36,7 +37,7 @@ fn reads_before<'a>(
 {
     let mut names = Vec::new(alloc);
     push_reads(&mut names, e)?;
-    push_names(&mut names, around)?;
+    push_listed(&mut names, around)?;
     Ok(names)
 }
 
@@ -69,7 +70,7 @@ fn strong_before<'a>(
 {
     let mut names = Vec::new(alloc);
     push_states_strong(&mut names, states)?;
-    push_names(&mut names, around)?;
+    push_listed(&mut names, around)?;
     Ok(names)
 }
 

@@ -6,8 +6,7 @@ ghost use Rattle.causality.specs.Flows.{flow_of};
 ghost use Rattle.causality.specs.Rounds.{AreNil, is_nil, next_nil};
 
 use crate::flows::Flow;
-use node_text::is_listed;
-use crate::reads::push_all;
+use node_text::{is_listed, push_names};
 use hept_ast::{Expr, Form, Memory, Name};
 use std::alloc::Global;
 
@@ -56,7 +55,7 @@ fn push_if_nil<'a>(
     ensures { OnOk result (map (λ r. r.now) next.new.items ≡ map (λ r. r.now) next.old.items ++ (if is_nil (map (λ r. r.now) nil.now) (flow_of flow.now) then flow.now.left.now else [])) }
 {
     if may_be_nil(flow.right, nil) {
-        push_all(next, flow.left)
+        push_names(next, flow.left)
     } else {
         Ok(())
     }

@@ -10,6 +10,7 @@ mod laws;
 mod parts;
 mod reads;
 mod unmet;
+mod vertices;
 
 pub use graph::find_cycle;
 pub use initial::{InitFault, check_initial};

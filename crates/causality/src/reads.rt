@@ -1,35 +1,9 @@
 //! What an expression reads at its own instant.
-ghost use Rattle.std.specs.Prelude.{◌≡◌, ◌++◌, ◌∷◌, [], IfOk, OnOk, map};
+ghost use Rattle.std.specs.Prelude.{◌≡◌, ◌++◌, OnOk, map};
 ghost use Rattle.hept_ast.specs.Causal.{reads};
 
 use hept_ast::{Expr, Form, Memory, Name};
-
-fn push_name<'a>(out: &mut Vec<&'a Name>, x: &'a Name) -> Result<(), Memory>
-    ensures { OnOk result (map (λ r. r.now) out.new.items ≡ map (λ r. r.now) out.old.items ++ x.now ∷ []) }
-{
-    match out.push(x) {
-        Ok(()) => Ok(()),
-        Err(_) => Err(Memory),
-    }
-}
-
-pub(crate) fn push_all<'a>(out: &mut Vec<&'a Name>, more: &'a [Name]) -> Result<(), Memory>
-    ensures { OnOk result (map (λ r. r.now) out.new.items ≡ map (λ r. r.now) out.old.items ++ more.now) }
-{
-    for x in more {
-        push_name(out, x)?;
-    }
-    Ok(())
-}
-
-pub(crate) fn push_names<'a>(out: &mut Vec<&'a Name>, more: &[&'a Name]) -> Result<(), Memory>
-    ensures { OnOk result (map (λ r. r.now) out.new.items ≡ map (λ r. r.now) out.old.items ++ map (λ r. r.now) more.now) }
-{
-    for x in more {
-        push_name(out, x)?;
-    }
-    Ok(())
-}
+use node_text::push_name;
 
 /// Appends the variables that an expression reads at its own instant.
 #[tactic(auto, using(hept_ast::proofs::ReadsOf::reads_of))]
