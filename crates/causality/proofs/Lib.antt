@@ -6,3 +6,4 @@ pub mod Rounds
 pub mod DemandsOf
 pub mod SeenDemands
 pub mod Initialised
+pub mod Numbers

@@ -5,3 +5,4 @@ pub mod Rounds
 pub mod Demands
 pub mod Initialised
 pub mod Vertices
+pub mod Cycles

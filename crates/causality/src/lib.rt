@@ -1,6 +1,7 @@
 //! Initialisation and causality: what may be undefined, what a variable reads at its own instant, and cycles of such reads.
 #![tactic(auto)]
 
+mod causal;
 mod demands;
 mod flows;
 mod grades;
@@ -12,6 +13,6 @@ mod reads;
 mod unmet;
 mod vertices;
 
-pub use graph::find_cycle;
+pub use causal::{CausalFault, check_causal};
 pub use initial::{InitFault, check_initial};
 pub use laws::cycle_laws;
