@@ -6,3 +6,4 @@ pub mod Demands
 pub mod Initialised
 pub mod Vertices
 pub mod Cycles
+pub mod Acceptance
