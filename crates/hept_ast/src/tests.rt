@@ -1,6 +1,7 @@
 use crate::{
-    BinaryOp, Block, Const, Decl, Expr, Form, Init, Memory, Name, Node, Place, Plain, Program, Ty,
-    Typed, UnaryOp, binary, erase, erase_expr, meaning_laws, static_laws, transfer_laws, unary,
+    Accepted, BinaryOp, Block, ClockPath, ClockStep, Clocked, Clocks, Const, Decl, Expr, Form,
+    Init, Memory, Name, Node, NodeId, Place, Plain, Program, Tag, Ty, Typed, UnaryOp, binary,
+    erase, erase_expr, meaning_laws, static_laws, transfer_laws, unary,
 };
 use sqlite_items::{Boxed, Items};
 use std::alloc::{AllocError, Global};
@@ -138,6 +139,89 @@ fn a_program_without_text_is_typed(rt: HostRuntime) -> Result<(), Fail> {
     let nodes = Items::new(alloc);
     let typed = Typed::of(Program { types, nodes });
     let nodes = typed.program().nodes.as_slice().len();
+    assert_eq!(rt; nodes, 0);
+    Ok(())
+}
+
+fn on_true(alloc: Global, text: &[u8]) -> Result<ClockPath, AllocError> {
+    let mut steps = Items::new(alloc);
+    steps.push(ClockStep {
+        tag: Tag::Truth(true),
+        name: name(alloc, text)?,
+    })?;
+    Ok(ClockPath { steps })
+}
+
+fn steps_of(clocks: &Clocks, node: NodeId, name: &Name) -> Option<usize> {
+    match clocks.get(node, name) {
+        Some(path) => Some(path.steps.as_slice().len()),
+        None => None,
+    }
+}
+
+#[test]
+fn a_clock_is_found_by_its_node_and_name(rt: HostRuntime) -> Result<(), Fail> {
+    let alloc = rt.alloc();
+    let mut clocks = Clocks::new(alloc);
+    let node = NodeId(2);
+    let long = on_true(alloc, b"c")?;
+    let Ok(()) = clocks.set(alloc, node, name(alloc, b"x")?, long) else {
+        return Err(AllocError.into());
+    };
+    let none = ClockPath {
+        steps: Items::new(alloc),
+    };
+    let Ok(()) = clocks.set(alloc, node, name(alloc, b"y")?, none) else {
+        return Err(AllocError.into());
+    };
+    let x = name(alloc, b"x")?;
+    let y = name(alloc, b"y")?;
+    let of_x = steps_of(&clocks, node, &x);
+    let of_y = steps_of(&clocks, node, &y);
+    let elsewhere = steps_of(&clocks, NodeId(1), &x);
+    assert_eq!(rt; of_x, Some(1));
+    assert_eq!(rt; of_y, Some(0));
+    assert_eq!(rt; elsewhere, None);
+    Ok(())
+}
+
+#[test]
+fn a_second_clock_of_a_name_replaces_the_first(rt: HostRuntime) -> Result<(), Fail> {
+    let alloc = rt.alloc();
+    let mut clocks = Clocks::new(alloc);
+    let node = NodeId(0);
+    let long = on_true(alloc, b"c")?;
+    let Ok(()) = clocks.set(alloc, node, name(alloc, b"x")?, long) else {
+        return Err(AllocError.into());
+    };
+    let none = ClockPath {
+        steps: Items::new(alloc),
+    };
+    let Ok(()) = clocks.set(alloc, node, name(alloc, b"x")?, none) else {
+        return Err(AllocError.into());
+    };
+    let x = name(alloc, b"x")?;
+    let of_x = steps_of(&clocks, node, &x);
+    assert_eq!(rt; of_x, Some(0));
+    Ok(())
+}
+
+#[test]
+fn a_program_without_text_is_accepted(rt: HostRuntime) -> Result<(), Fail> {
+    let alloc = rt.alloc();
+    let types = Items::new(alloc);
+    let nodes = Items::new(alloc);
+    let typed = Typed::of(Program { types, nodes });
+    let clocked = Clocked::of(typed, Clocks::new(alloc));
+    let x = name(alloc, b"x")?;
+    let unknown = clocked.clock_of(NodeId(0), &x).is_none();
+    let typed_nodes = clocked.program().nodes.as_slice().len();
+    assert!(rt; unknown);
+    assert_eq!(rt; typed_nodes, 0);
+    let accepted = Accepted::of(clocked);
+    let still = accepted.clock_of(NodeId(0), &x).is_none();
+    let nodes = accepted.program().nodes.as_slice().len();
+    assert!(rt; still);
     assert_eq!(rt; nodes, 0);
     Ok(())
 }

@@ -1,0 +1,8 @@
+use Rattle.std.proofs.Common.{◌≡◌, map, take}
+use Rattle.std.specs.List.{flat_map}
+use Rattle.causality.specs.Lowest.{lower, lowest}
+use Rattle.causality.specs.Demands.{grades_from, unmet_last}
+use Rattle.causality.proofs.demands.note_lasts.Given as goal
+
+abbrev pub invariant-loop-decl : goal.invariant-loop-decl
+invariant-loop-decl l = l.found ≡ lower l.initial.found (lowest (flat_map (unmet_last (grades_from (map (λ r. r.now) l.nil))) (take l.decl-index l.decls)))

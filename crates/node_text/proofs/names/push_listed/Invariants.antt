@@ -1,0 +1,5 @@
+use Rattle.std.proofs.Common.{◌≡◌, ◌++◌, map, take}
+use Rattle.node_text.proofs.names.push_listed.Given as goal
+
+abbrev pub invariant-loop-name : goal.invariant-loop-name
+invariant-loop-name l = map (λ r. r.now) l.names.items ≡ map (λ r. r.now) l.initial.names.items ++ map (λ r. r.now) (take l.name-index l.more)
