@@ -8,5 +8,5 @@ mod row_text;
 mod tests;
 mod value_text;
 
-pub use output_text::RowWriter;
+pub use output_text::{RowWriter, write_whole};
 pub use row_text::{RowFault, read_row};

@@ -156,7 +156,7 @@ fn put_text(text: &mut Vec<u8>, first: bool, piece: &[u8])
 }
 
 /// Hands the bytes to the sink, and what is left of them until all is taken.
-fn write_whole<K: Sink>(piece: &[u8], sink: &mut K) -> Result<(), Failed>
+pub fn write_whole<K: Sink>(piece: &[u8], sink: &mut K) -> Result<(), Failed>
     ensures written { OnOk result (Appends (K.held sink.old) (K.held sink.new) piece.now) }
     ensures part { OnErr result (AppendsPart (K.held sink.old) (K.held sink.new) piece.now) }
     ensures cause { OnErr result (Rose (K.faults sink.old) (K.faults sink.new)) }
