@@ -30,31 +30,32 @@ counted s = record { conditions = s.conditions; count = s.count + 1 }
 unfoldable pub added : Collection → ℕ → Term → Term → Collection
 added s p l r = record { conditions = s.conditions ++ record { place = p; left = l; right = r } ∷ []; count = s.count }
 
-unfoldable pub after : Collection → List Condition → Collection
-after s cs = record { conditions = s.conditions ++ cs; count = s.count }
+unfoldable pub wrote : Collection → List Condition → ℕ → Collection
+wrote s cs n = record { conditions = s.conditions ++ cs; count = s.count + n }
 
 -- in a scope that declares these itself
 module _ (own : List Name) where
+  -- after the conditions on a read of a variable from outside
+  unfoldable pub after_outer : Collection → (p : ℕ) → Name → Collection
+  after_outer s p x = wrote s (outer_read own p x) 0
+
+  unfoldable pub after_reading : Collection → (p n : ℕ) → Name → Collection
+  after_reading s p n x = wrote s (reading own p n x) 0
+
   -- after an expression that stands at p
   unfoldable pub after_form : Collection → (p : ℕ) → Form → Collection
-  after_form s p form = record { conditions = s.conditions ++ expression own s.count p form; count = s.count + (1 + length (below form)) }
+  after_form s p form = wrote s (expression own s.count p form) (1 + length (below form))
 
-  -- after an operand of a construct at p, which has to be on a clock
-  unfoldable pub after_operand : (p : ℕ) → Term → Collection → Expr → Collection
-  after_operand p on s e = after_form (added s p (term_of own s.count e.form) on) e.place.0 e.form
+  -- after the condition on an operand of a construct at p, which has to be on a clock
+  abbrev pub expected : (p : ℕ) → Term → Collection → Expr → Collection
+  expected p on s e = added s p (term_of own s.count e.form) on
 
-  unfoldable pub after_operands : (p : ℕ) → Term → Collection → List Expr → Collection
-  after_operands p on s es = fold (after_operand p on) s es
+  abbrev pub after_operand : (p : ℕ) → Term → Collection → Expr → Collection
+  after_operand p on s e = after_form (expected p on s e) e.place.0 e.form
 
-  unfoldable pub after_branch : (p : ℕ) → Name → Collection → MergeBranch → Collection
+  abbrev pub after_branch : (p : ℕ) → Name → Collection → MergeBranch → Collection
   after_branch p x s b = after_operand p (On (read_clock own x) b.tag x) s b.value
 
-  unfoldable pub after_branches : (p : ℕ) → Name → Collection → List MergeBranch → Collection
-  after_branches p x s bs = fold (after_branch p x) s bs
-
--- after a part that stands at a site, and after some
+-- after a part that stands at a site
 unfoldable pub after_part : Node → Collection → Placed → Collection
-after_part node s q = record { conditions = s.conditions ++ part_conditions (own_names node q.site) (seen_at node q.site) s.count q.part; count = s.count + length (flat_map inside (expressions_of q.part)) }
-
-unfoldable pub after_parts : Node → Collection → List Placed → Collection
-after_parts node s qs = fold (after_part node) s qs
+after_part node s q = wrote s (part_conditions (own_names node q.site) (seen_at node q.site) s.count q.part) (length (flat_map inside (expressions_of q.part)))
