@@ -77,22 +77,22 @@ pub ruleset terms_of = (term-Const, term-Unary, term-Binary, term-If, term-Fby, 
 
 -- ---- collections
 
-same_collection : (s t : Collection) → s.conditions ≡ t.conditions → s.count ≡ t.count → s ≡ t
+pub same_collection : (s t : Collection) → s.conditions ≡ t.conditions → s.count ≡ t.count → s ≡ t
 same_collection s t e h = ap (λ cs. record { conditions = cs; count = s.count }) e ∙ ap (λ n. record { conditions = t.conditions; count = n }) h
 
-wrote_two : (s : Collection) (cs ds : List Condition) (m n : ℕ) → wrote (wrote s cs m) ds n ≡ wrote s (cs ++ ds) (m + n)
+pub wrote_two : (s : Collection) (cs ds : List Condition) (m n : ℕ) → wrote (wrote s cs m) ds n ≡ wrote s (cs ++ ds) (m + n)
 unfolding wrote
 wrote_two s cs ds m n = same_collection _ _ (append_assoc s.conditions cs ds) (omega arith)
 
-wrote_none : (s : Collection) → wrote s [] 0 ≡ s
+pub wrote_none : (s : Collection) → wrote s [] 0 ≡ s
 unfolding wrote
 wrote_none s = same_collection _ _ (append-nil s.conditions) (omega arith)
 
-wrote_counted : (s : Collection) (cs : List Condition) (n : ℕ) → wrote (counted s) cs n ≡ wrote s cs (1 + n)
+pub wrote_counted : (s : Collection) (cs : List Condition) (n : ℕ) → wrote (counted s) cs n ≡ wrote s cs (1 + n)
 unfolding wrote counted
 wrote_counted s cs n = same_collection _ _ refl (omega arith)
 
-wrote_same : (s : Collection) (cs ds : List Condition) (m n : ℕ) → cs ≡ ds → m ≡ n → wrote s cs m ≡ wrote s ds n
+pub wrote_same : (s : Collection) (cs ds : List Condition) (m n : ℕ) → cs ≡ ds → m ≡ n → wrote s cs m ≡ wrote s ds n
 wrote_same s cs ds m n e h = ap (λ t. wrote s t m) e ∙ ap (λ t. wrote s ds t) h
 
 -- ---- readings
@@ -119,7 +119,7 @@ pub ruleset readings = (outer_is, reading_is)
 
 -- ---- operands
 
-after_one : (own : List Name) (p : ℕ) (on : Term) (s : Collection) (e : Expr) → after_operand own p on s e ≡ wrote s (operand own p on s.count e) (length (inside e))
+pub after_one : (own : List Name) (p : ℕ) (on : Term) (s : Collection) (e : Expr) → after_operand own p on s e ≡ wrote s (operand own p on s.count e) (length (inside e))
 unfolding after_form wrote added
 after_one own p on s e = same_collection _ _ (append_assoc s.conditions (equal p (term_of own s.count e.form) on) (expression own s.count e.place.0 e.form)) (omega arith)
 
@@ -153,6 +153,7 @@ after_list own p on s (e ∷ es) =
     after_list own p on (after_operand own p on s e) es
     ∙ ap (λ t. wrote t (operand_list own p on t.count es) (length (flat_map inside es))) (after_one own p on s e)
     ∙ list_joined s (operand own p on s.count e) (λ m. operand_list own p on m es) (inside e) (flat_map inside es)
+
 after_branch_list : (own : List Name) (p : ℕ) (x : Name) (s : Collection) (bs : List MergeBranch)
     → fold (after_branch own p x) s bs ≡ wrote s (branch_list own p x s.count bs) (length (flat_map (λ b. inside b.value) bs))
 after_branch_list own p x s [] = sym (wrote_none s)
@@ -164,16 +165,16 @@ after_branch_list own p x s (b ∷ bs) =
 -- ---- forms
 
 -- what a form gives, by its conditions and what is below it
-form_is : (own : List Name) (s : Collection) (p : ℕ) (f : Form) (cs : List Condition) (es : List Expr) → expression own s.count p f ≡ cs → below f ≡ es → after_form own s p f ≡ wrote (counted s) cs (length es)
+pub form_is : (own : List Name) (s : Collection) (p : ℕ) (f : Form) (cs : List Condition) (es : List Expr) → expression own s.count p f ≡ cs → below f ≡ es → after_form own s p f ≡ wrote (counted s) cs (length es)
 unfolding after_form
 form_is own s p f cs es e h = wrote_same s _ _ _ _ e (ap (λ t. 1 + length t) h) ∙ sym (wrote_counted s cs (length es))
 
-next_count : (s : Collection) → (counted s).count ≡ s.count + 1
+pub next_count : (s : Collection) → (counted s).count ≡ s.count + 1
 unfolding counted
 next_count s = refl
 
 -- operands after the number of their construct
-one_next : (own : List Name) (p : ℕ) (on : Term) (s : Collection) (a : Expr) → wrote (counted s) (operand own p on (s.count + 1) a) (length (inside a)) ≡ after_operand own p on (counted s) a
+pub one_next : (own : List Name) (p : ℕ) (on : Term) (s : Collection) (a : Expr) → wrote (counted s) (operand own p on (s.count + 1) a) (length (inside a)) ≡ after_operand own p on (counted s) a
 one_next own p on s a = ap (λ n. wrote (counted s) (operand own p on n a) (length (inside a))) (sym (next_count s)) ∙ sym (after_one own p on (counted s) a)
 
 two_next : (own : List Name) (p : ℕ) (on : Term) (s : Collection) (a b : Expr)
@@ -192,7 +193,7 @@ three_next own p on s c a b =
     ∙ ap (λ n. wrote (counted s) (operand own p on n c ++ operand own p on (n + length (inside c)) a ++ operand own p on (n + (length (inside c) + length (inside a))) b) (length (inside c) + length (inside a) + length (inside b))) (sym (next_count s))
     ∙ sym (after_three own p on (counted s) c a b)
 
-added_is : (s : Collection) (p : ℕ) (l r : Term) → added s p l r ≡ wrote s (equal p l r) 0
+pub added_is : (s : Collection) (p : ℕ) (l r : Term) → added s p l r ≡ wrote s (equal p l r) 0
 unfolding added wrote
 added_is s p l r = same_collection _ _ refl (omega arith)
 

@@ -1,12 +1,14 @@
 -- How the conditions of a node are collected: what was collected, after each piece of its text.
-use Rattle.std.specs.Prelude.{ℕ, ◌+◌, Bool, if◌then◌else◌, List, [], ◌∷◌, ◌++◌, length, map, fold}
+use Rattle.std.specs.Prelude.{ℕ, ◌+◌, Bool, if◌then◌else◌, is_some, List, [], ◌∷◌, ◌++◌, length, map, fold}
 use Rattle.std.specs.List.{flat_map}
+use Rattle.std.specs.Option.{option_to_list}
 use Rattle.hept_ast.specs.Texts.{Name}
-use Rattle.hept_ast.specs.Parts.{Part, Placed, inside, below, expressions_of, seen_at}
+use Rattle.hept_ast.specs.Parts.{Part, Placed, inside, below, expressions_of, seen_at, declaration}
 use Rattle.hept_ast.specs.Clocks.{Term, Base, Of, On, Condition, equal, read_clock, term_of, reading, outer_read, expression, defined, declared_on_base, on_base, part_conditions, own_names}
 use Rattle.hept_ast.specs.declared.tree.Node.{Node}
 use Rattle.hept_ast.specs.declared.tree.Decl.{Decl}
 use Rattle.hept_ast.specs.declared.tree.Expr.{Expr}
+use Rattle.hept_ast.specs.declared.tree.Escape.{Escape}
 use Rattle.hept_ast.specs.declared.tree.Form.{Form}
 use Rattle.hept_ast.specs.declared.tree.MergeBranch.{MergeBranch}
 use Rattle.clock_calculus.specs.Written.{condition_of}
@@ -55,6 +57,32 @@ module _ (own : List Name) where
 
   abbrev pub after_branch : (p : ℕ) → Name → Collection → MergeBranch → Collection
   after_branch p x s b = after_operand p (On (read_clock own x) b.tag x) s b.value
+
+  -- after the condition on a variable that a plain equation at p defines, whose right side is on a clock
+  unfoldable pub after_defined : (p : ℕ) → Term → Collection → Name → Collection
+  after_defined p right s x = wrote s (defined own p right x) 0
+
+  -- after a plain equation at p
+  unfoldable pub after_plain : (p : ℕ) → List Name → Expr → Collection → Collection
+  after_plain p left right s = after_form (fold (after_defined p (term_of own s.count right.form)) s left) right.place.0 right.form
+
+  -- after an expression that has to be on the base clock
+  abbrev pub after_on_base : Collection → Expr → Collection
+  after_on_base s e = after_operand e.place.0 Base s e
+
+  abbrev pub after_condition : Collection → Escape → Collection
+  after_condition s e = after_on_base s e.condition
+
+-- after a variable that is on the base clock by its declaration, and after one with `last`
+abbrev pub after_declared : Collection → Decl → Collection
+after_declared s d = added s d.place.0 (Of d.name) Base
+
+unfoldable pub after_last : Collection → Decl → Collection
+after_last s d = if is_some d.init then after_declared s d else s
+
+-- after a variable that a block equation defines, by its declaration
+unfoldable pub after_set : List Decl → Collection → Name → Collection
+after_set seen s x = wrote s (flat_map (λ d. equal d.place.0 (Of x) Base) (option_to_list (declaration seen x))) 0
 
 -- after a part that stands at a site
 unfoldable pub after_part : Node → Collection → Placed → Collection

@@ -91,7 +91,7 @@ fn push_reading<'a>(
 }
 
 /// The next operand of a construct has to be on a clock.
-fn push_expected<'a>(
+pub(crate) fn push_expected<'a>(
     out: &mut Collected<'a>,
     scope: &Scope<'a>,
     place: Place,
