@@ -70,7 +70,7 @@ module _ (own : List Name) where
   abbrev pub after_on_base : Collection → Expr → Collection
   after_on_base s e = after_operand e.place.0 Base s e
 
-  abbrev pub after_condition : Collection → Escape → Collection
+  unfoldable pub after_condition : Collection → Escape → Collection
   after_condition s e = after_on_base s e.condition
 
 -- after a variable that is on the base clock by its declaration, and after one with `last`

@@ -85,6 +85,7 @@ fn push_on_base<'a>(out: &mut Collected<'a>, scope: &Scope<'a>, e: &'a Expr) -> 
 }
 
 /// Transitions: their conditions are on the base clock.
+#[tactic(auto, unfolding(crate::specs::Collecting::after_condition))]
 fn push_escapes<'a>(
     out: &mut Collected<'a>,
     scope: &Scope<'a>,
@@ -193,7 +194,7 @@ fn push_equation<'a>(
         }
         Equation::Switch { on, branches, .. } => {
             push_switch(alloc, out, scope, on, branches.as_slice())?;
-            push_branches(alloc, out, scope, on, branches.as_slice())
+            push_branches(alloc, out, scope, branches.as_slice(), on)
         }
         Equation::Reset { block, every, .. } => {
             push_on_base(out, scope, every)?;
@@ -231,8 +232,8 @@ fn push_branches<'a>(
     alloc: Global,
     out: &mut Collected<'a>,
     scope: &Scope<'a>,
-    on: &'a Expr,
     branches: &'a [Branch],
+    on: &'a Expr,
 ) -> Result<(), Memory>
     ensures { OnOk result (collection out.new ≡ fold (after_part scope.now.node.now) (collection out.old) (flat_map (λ b. block_parts (Branch_of on.now b.block.locals ∷ site_of scope.now) b.block) branches.now)) }
 {
