@@ -141,7 +141,7 @@ after_three own p on s c a b =
     ∙ after_more own p on s (operand own p on s.count c ++ operand own p on (s.count + length (inside c)) a) (length (inside c) + length (inside a)) b
 
 -- a list that was written after something
-list_joined : {X : Type 0} (s : Collection) (cs : List Condition) (rest : ℕ → List Condition) (xs ys : List X)
+pub list_joined : {X : Type 0} (s : Collection) (cs : List Condition) (rest : ℕ → List Condition) (xs ys : List X)
     → wrote (wrote s cs (length xs)) (rest ((wrote s cs (length xs)).count)) (length ys) ≡ wrote s (cs ++ rest (s.count + length xs)) (length (xs ++ ys))
 unfolding wrote
 list_joined s cs rest xs ys = wrote_two s cs (rest (s.count + length xs)) (length xs) (length ys) ∙ wrote_same s _ _ _ _ refl (sym (length-append xs ys))

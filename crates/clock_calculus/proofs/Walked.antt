@@ -7,8 +7,8 @@ use Rattle.std.proofs.lemmas.List.{take_all, take_more}
 use Rattle.std.proofs.lemmas.List.Sums.{fold_more, fold-append}
 use Rattle.hept_ast.specs.Texts.{Name, is_in}
 use Rattle.hept_ast.specs.InnerParts.{state_names}
-use Rattle.hept_ast.specs.Parts.{Around, Surroundings, Part, Placed, Case, Block, Plain, Switch, Reset, Automaton, Transition, inside, below, declaration, seen_at, expressions_of, transitions, parts_of, block_parts, state_parts, state_case, branch_case, block_sets, equation_case, strong_of_all, Branch_of, Body_of, State_of}
-use Rattle.hept_ast.specs.Clocks.{Term, Base, Of, Condition, equal, term_of, expression, defined, declared_on_base, on_base, part_conditions, own_names}
+use Rattle.hept_ast.specs.Parts.{Around, Surroundings, Part, Placed, Case, Block, Plain, Switch, Reset, Automaton, Transition, inside, below, declaration, seen_at, expressions_of, transitions, parts_of, block_parts, state_parts, state_case, branch_case, block_sets, equation_case, strong_of_all, Branch_of, Body_of, State_of, parts, expressions, place_of, sets_of}
+use Rattle.hept_ast.specs.Clocks.{Term, Base, Of, Condition, equal, term_of, expression, defined, declared_on_base, on_base, part_conditions, own_names, numbered}
 use Rattle.hept_ast.specs.declared.tree.Block as b
 use Rattle.hept_ast.specs.declared.tree.Decl.{Decl}
 use Rattle.hept_ast.specs.declared.tree.Node.{Node}
@@ -20,8 +20,8 @@ use Rattle.hept_ast.specs.declared.tree.Branch.{Branch}
 use Rattle.hept_ast.specs.declared.tree.Equation as eq
 use Rattle.hept_ast.specs.declared.name.Place.{Place}
 use Rattle.hept_ast.proofs.PartsOf.{parts-Define, parts-Switch, parts-Reset, parts-Automaton}
-use Rattle.clock_calculus.specs.Collecting.{Collection, added, wrote, after_form, after_operand, after_on_base, after_condition, after_defined, after_plain, after_declared, after_last, after_set, after_part}
-use Rattle.clock_calculus.proofs.Collected.{same_collection, wrote_two, wrote_none, wrote_same, added_is, after_one}
+use Rattle.clock_calculus.specs.Collecting.{Collection, added, wrote, after_form, after_operand, after_on_base, after_condition, after_defined, after_plain, after_declared, after_last, after_set, after_part, empty_collection, of_node}
+use Rattle.clock_calculus.proofs.Collected.{same_collection, wrote_two, wrote_none, wrote_same, added_is, after_one, list_joined}
 
 -- ---- definitions
 
@@ -183,3 +183,42 @@ fold_flat_more f s g xs i d below =
     flat_append g (x ∷ xs) ys = ap (λ t. g x ++ t) (flat_append g xs ys) ∙ sym (append_assoc (g x) (flat_map g xs) (flat_map g ys))
 
 pub ruleset walked = (take_all, fold_flat_more, walk-Define, walk-Switch, walk-Reset, walk-Automaton, walk-block, walk-state)
+
+-- ---- nodes
+
+parts_wrote : (node : Node) (s : Collection) (qs : List Placed) → fold (after_part node) s qs ≡ wrote s (numbered node s.count qs) (length (flat_map (λ (q : Placed). flat_map inside (expressions_of q.part)) qs))
+unfolding after_part
+parts_wrote node s [] = sym (wrote_none s)
+parts_wrote node s (q ∷ qs) =
+    parts_wrote node (after_part node s q) qs
+    ∙ list_joined s (part_conditions (own_names node q.site) (seen_at node q.site) s.count q.part) (λ m. numbered node m qs) (flat_map inside (expressions_of q.part)) (flat_map (λ (q : Placed). flat_map inside (expressions_of q.part)) qs)
+
+declared_wrote : (s : Collection) (ds : List Decl) → fold after_declared s ds ≡ wrote s (flat_map (λ (d : Decl). equal d.place.0 (Of d.name) Base) ds) 0
+declared_wrote s [] = sym (wrote_none s)
+declared_wrote s (d ∷ ds) =
+    declared_wrote (after_declared s d) ds ∙ ap (λ t. wrote t (flat_map (λ (d : Decl). equal d.place.0 (Of d.name) Base) ds) 0) (added_is s d.place.0 (Of d.name) Base)
+    ∙ wrote_two s (equal d.place.0 (Of d.name) Base) (flat_map (λ (d : Decl). equal d.place.0 (Of d.name) Base) ds) 0 0 ∙ wrote_same s _ _ _ _ refl (omega arith)
+
+from_nothing : (cs ds : List Condition) (n : ℕ) → wrote (wrote empty_collection cs 0) ds n ≡ record { conditions = cs ++ ds; count = n }
+unfolding wrote
+from_nothing cs ds n = same_collection _ _ refl (omega arith)
+
+nothing_counted : (cs : List Condition) → (wrote empty_collection cs 0).count ≡ 0
+unfolding wrote
+nothing_counted cs = omega arith
+
+pub whole_node : (node : Node)
+    → fold (after_part node) (fold after_last (fold after_last (fold after_declared (fold after_declared empty_collection node.inputs) node.outputs) node.outputs) node.block.locals) (flat_map (parts_of []) node.block.body) ≡ of_node node
+whole_node node =
+    let f : Decl → List Condition = λ d. equal d.place.0 (Of d.name) Base in
+    let body = flat_map (parts_of []) node.block.body in
+    let s = wrote empty_collection (flat_map f (node.inputs ++ node.outputs)) 0 in
+    ap (λ t. fold (after_part node) t body)
+    (sym (fold-append after_last (fold after_declared (fold after_declared empty_collection node.inputs) node.outputs) node.outputs node.block.locals)
+    ∙ ap (λ t. fold after_last t (node.outputs ++ node.block.locals)) (sym (fold-append after_declared empty_collection node.inputs node.outputs) ∙ declared_wrote empty_collection (node.inputs ++ node.outputs))
+    ∙ sym (part-Block node s [] (node.outputs ++ node.block.locals) (map (λ e. record { place = place_of e; label = tt; sets = sets_of e }) node.block.body)))
+    ∙ parts_wrote node s (parts node)
+    ∙ ap (λ n. wrote s (numbered node n (parts node)) (length (expressions node))) (nothing_counted (flat_map f (node.inputs ++ node.outputs)))
+    ∙ from_nothing (flat_map f (node.inputs ++ node.outputs)) (numbered node 0 (parts node)) (length (expressions node))
+
+pub ruleset whole = (take_all, fold_flat_more, whole_node)

@@ -3,8 +3,8 @@ use Rattle.std.specs.Prelude.{ℕ, ◌+◌, Bool, if◌then◌else◌, is_some, 
 use Rattle.std.specs.List.{flat_map}
 use Rattle.std.specs.Option.{option_to_list}
 use Rattle.hept_ast.specs.Texts.{Name}
-use Rattle.hept_ast.specs.Parts.{Part, Placed, inside, below, expressions_of, seen_at, declaration}
-use Rattle.hept_ast.specs.Clocks.{Term, Base, Of, On, Condition, equal, read_clock, term_of, reading, outer_read, expression, defined, declared_on_base, on_base, part_conditions, own_names}
+use Rattle.hept_ast.specs.Parts.{Part, Placed, inside, below, expressions_of, seen_at, declaration, expressions}
+use Rattle.hept_ast.specs.Clocks.{Term, Base, Of, On, Condition, equal, read_clock, term_of, reading, outer_read, expression, defined, declared_on_base, on_base, part_conditions, own_names, conditions}
 use Rattle.hept_ast.specs.declared.tree.Node.{Node}
 use Rattle.hept_ast.specs.declared.tree.Decl.{Decl}
 use Rattle.hept_ast.specs.declared.tree.Expr.{Expr}
@@ -87,3 +87,7 @@ after_set seen s x = wrote s (flat_map (λ d. equal d.place.0 (Of x) Base) (opti
 -- after a part that stands at a site
 unfoldable pub after_part : Node → Collection → Placed → Collection
 after_part node s q = wrote s (part_conditions (own_names node q.site) (seen_at node q.site) s.count q.part) (length (flat_map inside (expressions_of q.part)))
+
+-- a whole node
+abbrev pub of_node : Node → Collection
+of_node node = record { conditions = conditions node; count = length (expressions node) }

@@ -4,7 +4,7 @@ ghost use Rattle.std.specs.List.{flat_map};
 ghost use Rattle.hept_ast.specs.Clocks.{Base, conditions};
 ghost use Rattle.hept_ast.specs.InnerParts.{state_names};
 ghost use Rattle.hept_ast.specs.Parts.{Branch_of, block_parts, block_sets, parts_of, state_parts, strong_of_all};
-ghost use Rattle.clock_calculus.specs.Collecting.{after_condition, after_declared, after_defined, after_last, after_on_base, after_part, after_plain, after_set, collection};
+ghost use Rattle.clock_calculus.specs.Collecting.{after_condition, after_declared, after_defined, after_last, after_on_base, after_part, after_plain, after_set, collection, of_node};
 ghost use Rattle.clock_calculus.specs.Sites.{own_of, seen_of, site_of};
 ghost use Rattle.clock_calculus.specs.Written.{base_term};
 
@@ -277,4 +277,24 @@ fn push_state<'a>(
     push_block(alloc, out, &inner, &state.block)?;
     push_escapes(out, &inner, state.weak.as_slice())?;
     push_escapes(out, scope, state.strong.as_slice())
+}
+
+/// The conditions of a node, and the number of its expressions.
+#[tactic(auto, using(crate::proofs::Walked::whole))]
+pub(crate) fn collect<'a>(alloc: Global, node: &'a Node) -> Result<Collected<'a>, Memory>
+    ensures { IfOk result (λ c. collection c ≡ of_node node.now) }
+{
+    let mut out = Collected::new(alloc);
+    push_all_declared(&mut out, node.inputs.as_slice())?;
+    push_all_declared(&mut out, node.outputs.as_slice())?;
+    push_lasts(&mut out, node.outputs.as_slice())?;
+    push_lasts(&mut out, node.block.locals.as_slice())?;
+    let scope = Scope {
+        node,
+        site: Vec::new(alloc),
+    };
+    for equation in node.block.body.as_slice() {
+        push_equation(alloc, &mut out, &scope, equation)?;
+    }
+    Ok(out)
 }
