@@ -106,4 +106,21 @@ impl<'a> Numbers<'a> {
             }
         }
     }
+
+    /// A clock as a term.
+    #[tactic(auto, unfolding(crate::specs::Numbering::encoded))]
+    pub(crate) fn term(&self, alloc: Global, clock: Clock<'a>) -> Result<Term, Memory>
+        requires { IsWithin self.now.unknowns (encoded (names_of self.now) (steps_of self.now) (clock_term clock)).base }
+        ensures { IfOk result (λ t. t ≡ encoded (names_of self.now) (steps_of self.now) (clock_term clock.entry)) }
+    {
+        let base = self.base(clock.base);
+        let mut steps = Items::new(alloc);
+        if let Some(step) = clock.step {
+            let number = self.step(step);
+            if steps.push(number).is_err() {
+                return Err(Memory);
+            }
+        }
+        Ok(Term { base, steps })
+    }
 }
