@@ -77,20 +77,22 @@ pub ruleset terms_of = (term-Const, term-Unary, term-Binary, term-If, term-Fby, 
 
 -- ---- collections
 
-pub same_collection : (s t : Collection) → s.conditions ≡ t.conditions → s.count ≡ t.count → s ≡ t
-same_collection s t e h = ap (λ cs. record { conditions = cs; count = s.count }) e ∙ ap (λ n. record { conditions = t.conditions; count = n }) h
+pub same_collection : (s t : Collection) → s.variables ≡ t.variables → s.conditions ≡ t.conditions → s.count ≡ t.count → s ≡ t
+same_collection s t v e h =
+    ap (λ cs. record { conditions = cs; count = s.count; variables = s.variables }) e ∙ ap (λ n. record { conditions = t.conditions; count = n; variables = s.variables }) h
+    ∙ ap (λ xs. record { conditions = t.conditions; count = t.count; variables = xs }) v
 
 pub wrote_two : (s : Collection) (cs ds : List Condition) (m n : ℕ) → wrote (wrote s cs m) ds n ≡ wrote s (cs ++ ds) (m + n)
 unfolding wrote
-wrote_two s cs ds m n = same_collection _ _ (append_assoc s.conditions cs ds) (omega arith)
+wrote_two s cs ds m n = same_collection _ _ refl (append_assoc s.conditions cs ds) (omega arith)
 
 pub wrote_none : (s : Collection) → wrote s [] 0 ≡ s
 unfolding wrote
-wrote_none s = same_collection _ _ (append-nil s.conditions) (omega arith)
+wrote_none s = same_collection _ _ refl (append-nil s.conditions) (omega arith)
 
 pub wrote_counted : (s : Collection) (cs : List Condition) (n : ℕ) → wrote (counted s) cs n ≡ wrote s cs (1 + n)
 unfolding wrote counted
-wrote_counted s cs n = same_collection _ _ refl (omega arith)
+wrote_counted s cs n = same_collection _ _ refl refl (omega arith)
 
 pub wrote_same : (s : Collection) (cs ds : List Condition) (m n : ℕ) → cs ≡ ds → m ≡ n → wrote s cs m ≡ wrote s ds n
 wrote_same s cs ds m n e h = ap (λ t. wrote s t m) e ∙ ap (λ t. wrote s ds t) h
@@ -100,7 +102,7 @@ wrote_same s cs ds m n e h = ap (λ t. wrote s t m) e ∙ ap (λ t. wrote s ds t
 outer_tested : (own : List Name) (s : Collection) (p : ℕ) (x : Name) (t : Bool) → is_in x own ≡ t → after_outer own s p x ≡ (if t then s else added s p (Of x) Base)
 unfolding after_outer wrote added
 outer_tested own s p x true e = ap (λ t. wrote s (if t then [] else equal p (Of x) Base) 0) e ∙ wrote_none s
-outer_tested own s p x false e = ap (λ t. wrote s (if t then [] else equal p (Of x) Base) 0) e ∙ same_collection _ _ refl (omega arith)
+outer_tested own s p x false e = ap (λ t. wrote s (if t then [] else equal p (Of x) Base) 0) e ∙ same_collection _ _ refl refl (omega arith)
 
 pub outer_is : (own : List Name) (s : Collection) (p : ℕ) (x : Name) → after_outer own s p x ≡ (if is_in x own then s else added s p (Of x) Base)
 outer_is own s p x = outer_tested own s p x (is_in x own) refl
@@ -110,7 +112,7 @@ reading_tested : (own : List Name) (s : Collection) (p n : ℕ) (x : Name) (t : 
 unfolding after_reading wrote added
 reading_tested own s p n x true e = ap (λ t. wrote s (if t then [] else equal p (Of x) Base ++ equal p (Inner n) Base) 0) e ∙ wrote_none s
 reading_tested own s p n x false e =
-    ap (λ t. wrote s (if t then [] else equal p (Of x) Base ++ equal p (Inner n) Base) 0) e ∙ same_collection _ _ (sym (append_assoc s.conditions (equal p (Of x) Base) (equal p (Inner n) Base))) (omega arith)
+    ap (λ t. wrote s (if t then [] else equal p (Of x) Base ++ equal p (Inner n) Base) 0) e ∙ same_collection _ _ refl (sym (append_assoc s.conditions (equal p (Of x) Base) (equal p (Inner n) Base))) (omega arith)
 
 pub reading_is : (own : List Name) (s : Collection) (p n : ℕ) (x : Name) → after_reading own s p n x ≡ (if is_in x own then s else added (added s p (Of x) Base) p (Inner n) Base)
 reading_is own s p n x = reading_tested own s p n x (is_in x own) refl
@@ -121,7 +123,7 @@ pub ruleset readings = (outer_is, reading_is)
 
 pub after_one : (own : List Name) (p : ℕ) (on : Term) (s : Collection) (e : Expr) → after_operand own p on s e ≡ wrote s (operand own p on s.count e) (length (inside e))
 unfolding after_form wrote added
-after_one own p on s e = same_collection _ _ (append_assoc s.conditions (equal p (term_of own s.count e.form) on) (expression own s.count e.place.0 e.form)) (omega arith)
+after_one own p on s e = same_collection _ _ refl (append_assoc s.conditions (equal p (term_of own s.count e.form) on) (expression own s.count e.place.0 e.form)) (omega arith)
 
 -- an operand after what was written
 after_more : (own : List Name) (p : ℕ) (on : Term) (s : Collection) (cs : List Condition) (n : ℕ) (e : Expr)
@@ -195,7 +197,7 @@ three_next own p on s c a b =
 
 pub added_is : (s : Collection) (p : ℕ) (l r : Term) → added s p l r ≡ wrote s (equal p l r) 0
 unfolding added wrote
-added_is s p l r = same_collection _ _ refl (omega arith)
+added_is s p l r = same_collection _ _ refl refl (omega arith)
 
 pub after-Const : (own : List Name) (s : Collection) (p : ℕ) (k : Const) → after_form own s p (form.Const k) ≡ counted s
 after-Const own s p k = form_is own s p _ [] [] (conditions-Const own s.count p k) (below-Const k) ∙ wrote_none (counted s)

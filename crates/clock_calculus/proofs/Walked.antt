@@ -3,11 +3,11 @@ use Rattle.std.proofs.Common.{◌≡◌, ℕ, ◌+◌, List, [], ◌∷◌, ◌+
 use Rattle.std.specs.Prelude.{Option, is_some}
 use Rattle.std.specs.List.{flat_map}
 use Rattle.std.specs.Option.{option_to_list}
-use Rattle.std.proofs.lemmas.List.{take_all, take_more}
+use Rattle.std.proofs.lemmas.List.{take_all, take_more, map-append}
 use Rattle.std.proofs.lemmas.List.Sums.{fold_more, fold-append}
-use Rattle.hept_ast.specs.Texts.{Name, is_in}
+use Rattle.hept_ast.specs.Texts.{Name, is_in, names}
 use Rattle.hept_ast.specs.InnerParts.{state_names}
-use Rattle.hept_ast.specs.Parts.{Around, Surroundings, Part, Placed, Case, Block, Plain, Switch, Reset, Automaton, Transition, inside, below, declaration, seen_at, expressions_of, transitions, parts_of, block_parts, state_parts, state_case, branch_case, block_sets, equation_case, strong_of_all, Branch_of, Body_of, State_of, parts, expressions, place_of, sets_of}
+use Rattle.hept_ast.specs.Parts.{Around, Surroundings, Part, Placed, Case, Block, Plain, Switch, Reset, Automaton, Transition, inside, below, declaration, seen_at, expressions_of, transitions, parts_of, block_parts, state_parts, state_case, branch_case, block_sets, equation_case, strong_of_all, Branch_of, Body_of, State_of, parts, expressions, declared_in, place_of, sets_of}
 use Rattle.hept_ast.specs.Clocks.{Term, Base, Of, Condition, equal, term_of, expression, defined, declared_on_base, on_base, part_conditions, own_names, numbered}
 use Rattle.hept_ast.specs.declared.tree.Block as b
 use Rattle.hept_ast.specs.declared.tree.Decl.{Decl}
@@ -20,17 +20,17 @@ use Rattle.hept_ast.specs.declared.tree.Branch.{Branch}
 use Rattle.hept_ast.specs.declared.tree.Equation as eq
 use Rattle.hept_ast.specs.declared.name.Place.{Place}
 use Rattle.hept_ast.proofs.PartsOf.{parts-Define, parts-Switch, parts-Reset, parts-Automaton}
-use Rattle.clock_calculus.specs.Collecting.{Collection, added, wrote, after_form, after_operand, after_on_base, after_condition, after_defined, after_plain, after_declared, after_last, after_set, after_part, empty_collection, of_node}
-use Rattle.clock_calculus.proofs.Collected.{same_collection, wrote_two, wrote_none, wrote_same, added_is, after_one, list_joined}
+use Rattle.clock_calculus.specs.Collecting.{Collection, added, wrote, after_form, after_operand, after_on_base, after_condition, after_defined, after_plain, after_declared, after_last, after_set, after_part, declaring, empty_collection, of_node}
+use Rattle.clock_calculus.proofs.Collected.{same_collection, wrote_two, wrote_none, wrote_same, added_is, after_one}
 
 -- ---- definitions
 
 defined_tested : (own : List Name) (p : ℕ) (right : Term) (s : Collection) (x : Name) (t : Bool) → is_in x own ≡ t
     → after_defined own p right s x ≡ (if t then added s p (Of x) right else added (added s p (Of x) Base) p right Base)
 unfolding after_defined wrote added
-defined_tested own p right s x true e = ap (λ t. wrote s (if t then equal p (Of x) right else equal p (Of x) Base ++ equal p right Base) 0) e ∙ same_collection _ _ refl (omega arith)
+defined_tested own p right s x true e = ap (λ t. wrote s (if t then equal p (Of x) right else equal p (Of x) Base ++ equal p right Base) 0) e ∙ same_collection _ _ refl refl (omega arith)
 defined_tested own p right s x false e =
-    ap (λ t. wrote s (if t then equal p (Of x) right else equal p (Of x) Base ++ equal p right Base) 0) e ∙ same_collection _ _ (sym (append_assoc s.conditions (equal p (Of x) Base) (equal p right Base))) (omega arith)
+    ap (λ t. wrote s (if t then equal p (Of x) right else equal p (Of x) Base ++ equal p right Base) 0) e ∙ same_collection _ _ refl (sym (append_assoc s.conditions (equal p (Of x) Base) (equal p right Base))) (omega arith)
 
 pub defined_is : (own : List Name) (p : ℕ) (right : Term) (s : Collection) (x : Name) → after_defined own p right s x ≡ (if is_in x own then added s p (Of x) right else added (added s p (Of x) Base) p right Base)
 defined_is own p right s x = defined_tested own p right s x (is_in x own) refl
@@ -106,30 +106,40 @@ plain_is own p left right s =
 
 -- ---- equations, blocks and states
 
+declaring_none : (s : Collection) → declaring s [] ≡ s
+unfolding declaring
+declaring_none s = same_collection _ _ (append-nil s.variables) refl refl
+
+-- a part that declares nothing
+undeclared : (s : Collection) (cs : List Condition) (n : ℕ) → wrote (declaring s []) cs n ≡ wrote s cs n
+undeclared s cs n = ap (λ t. wrote t cs n) (declaring_none s)
+
 module _ (node : Node) (s : Collection) (site : Surroundings) where
   part-Plain : (p : ℕ) (left : List Name) (right : Expr) → after_part node s (record { site = site; part = Plain p left right }) ≡ after_plain (own_names node site) p left right s
   unfolding after_part
-  part-Plain p left right = plain_is (own_names node site) p left right s
+  part-Plain p left right = undeclared s _ _ ∙ plain_is (own_names node site) p left right s
 
-  part-Block : (ds : List Decl) (es : List (Case (Unit {0}))) → after_part node s (record { site = site; part = Block ds es }) ≡ fold after_last s ds
+  part-Block : (ds : List Decl) (es : List (Case (Unit {0}))) → after_part node s (record { site = site; part = Block ds es }) ≡ fold after_last (declaring s ds) ds
   unfolding after_part
-  part-Block ds es = sym (lasts_wrote s ds)
+  part-Block ds es = sym (lasts_wrote (declaring s ds) ds)
 
   part-Switch : (p : ℕ) (on : Expr) (cs : List (Case Tag)) → after_part node s (record { site = site; part = Switch p on cs }) ≡ after_on_base (own_names node site) (fold (after_set (seen_at node site)) s (flat_map (λ c. c.sets) cs)) on
   unfolding after_part
-  part-Switch p on cs = based_after (own_names node site) s (declared_on_base [] (seen_at node site) (flat_map (λ c. c.sets) cs)) on ∙ ap (λ t. after_on_base (own_names node site) t on) (sym (sets_wrote (seen_at node site) s (flat_map (λ c. c.sets) cs)))
+  part-Switch p on cs =
+      undeclared s _ _ ∙ based_after (own_names node site) s (declared_on_base [] (seen_at node site) (flat_map (λ c. c.sets) cs)) on
+      ∙ ap (λ t. after_on_base (own_names node site) t on) (sym (sets_wrote (seen_at node site) s (flat_map (λ c. c.sets) cs)))
 
   part-Reset : (p : ℕ) (every : Expr) (sets : List Name) → after_part node s (record { site = site; part = Reset p every sets }) ≡ after_on_base (own_names node site) s every
   unfolding after_part
-  part-Reset p every sets = based (own_names node site) s every
+  part-Reset p every sets = undeclared s _ _ ∙ based (own_names node site) s every
 
   part-Automaton : (p : ℕ) (cs : List (Case Name)) → after_part node s (record { site = site; part = Automaton p cs }) ≡ fold (after_set (seen_at node site)) s (flat_map (λ c. c.sets) cs)
   unfolding after_part
-  part-Automaton p cs = sym (sets_wrote (seen_at node site) s (flat_map (λ c. c.sets) cs))
+  part-Automaton p cs = undeclared s _ _ ∙ sym (sets_wrote (seen_at node site) s (flat_map (λ c. c.sets) cs))
 
   part-Transition : (strong : Bool) (states : List Name) (e : Escape) → after_part node s (record { site = site; part = Transition strong states e }) ≡ after_condition (own_names node site) s e
   unfolding after_part after_condition
-  part-Transition strong states e = based (own_names node site) s e.condition
+  part-Transition strong states e = undeclared s _ _ ∙ based (own_names node site) s e.condition
 
 of_transitions : (node : Node) (s : Collection) (site : Surroundings) (strong : Bool) (states : List Name) (es : List Escape) → fold (after_part node) s (transitions site strong states es) ≡ fold (after_condition (own_names node site)) s es
 of_transitions node s site strong states [] = refl
@@ -160,7 +170,7 @@ walk-Automaton node s site p qs =
     ap (fold (after_part node) s) (parts-Automaton site p qs)
     ∙ ap (λ t. fold (after_part node) t rest) (part-Automaton node s site p.0 (map state_case qs) ∙ ap (λ xs. fold (after_set (seen_at node site)) s xs) (flat_mapped (λ c. c.sets) state_case qs))
 
-pub walk-block : (node : Node) (s : Collection) (site : Surroundings) (block : b.Block) → fold (after_part node) s (block_parts site block) ≡ fold (after_part node) (fold after_last s block.locals) (flat_map (parts_of site) block.body)
+pub walk-block : (node : Node) (s : Collection) (site : Surroundings) (block : b.Block) → fold (after_part node) s (block_parts site block) ≡ fold (after_part node) (fold after_last (declaring s block.locals) block.locals) (flat_map (parts_of site) block.body)
 walk-block node s site block = ap (λ t. fold (after_part node) t (flat_map (parts_of site) block.body)) (part-Block node s site block.locals (map equation_case block.body))
 
 pub walk-state : (node : Node) (s : Collection) (site : Surroundings) (strong : List Expr) (states : List Name) (q : State)
@@ -186,12 +196,23 @@ pub ruleset walked = (take_all, fold_flat_more, walk-Define, walk-Switch, walk-R
 
 -- ---- nodes
 
-parts_wrote : (node : Node) (s : Collection) (qs : List Placed) → fold (after_part node) s qs ≡ wrote s (numbered node s.count qs) (length (flat_map (λ (q : Placed). flat_map inside (expressions_of q.part)) qs))
+-- variables that were declared on both sides of what was written
+declared_both : (s : Collection) (ds es : List Decl) (cs : List Condition) (rest : ℕ → List Condition) (xs ys : List Expr)
+    → (let t = wrote (declaring s ds) cs (length xs) in declaring (wrote t (rest t.count) (length ys)) es) ≡ declaring (wrote s (cs ++ rest (s.count + length xs)) (length (xs ++ ys))) (ds ++ es)
+unfolding wrote declaring
+declared_both s ds es cs rest xs ys =
+    same_collection _ _ (append_assoc s.variables (names ds) (names es) ∙ ap (λ t. s.variables ++ t) (sym (map-append (λ (d : Decl). d.name) ds es))) (append_assoc s.conditions cs (rest (s.count + length xs))) (omega (arith, length-append xs ys))
+
+none_written : (s : Collection) → s ≡ declaring (wrote s [] 0) []
+none_written s = sym (ap (λ t. declaring t []) (wrote_none s) ∙ declaring_none s)
+
+parts_wrote : (node : Node) (s : Collection) (qs : List Placed)
+    → fold (after_part node) s qs ≡ declaring (wrote s (numbered node s.count qs) (length (flat_map (λ (q : Placed). flat_map inside (expressions_of q.part)) qs))) (flat_map (λ (q : Placed). declared_in q.part) qs)
 unfolding after_part
-parts_wrote node s [] = sym (wrote_none s)
+parts_wrote node s [] = none_written s
 parts_wrote node s (q ∷ qs) =
     parts_wrote node (after_part node s q) qs
-    ∙ list_joined s (part_conditions (own_names node q.site) (seen_at node q.site) s.count q.part) (λ m. numbered node m qs) (flat_map inside (expressions_of q.part)) (flat_map (λ (q : Placed). flat_map inside (expressions_of q.part)) qs)
+    ∙ declared_both s (declared_in q.part) (flat_map (λ (q : Placed). declared_in q.part) qs) (part_conditions (own_names node q.site) (seen_at node q.site) s.count q.part) (λ m. numbered node m qs) (flat_map inside (expressions_of q.part)) (flat_map (λ (q : Placed). flat_map inside (expressions_of q.part)) qs)
 
 declared_wrote : (s : Collection) (ds : List Decl) → fold after_declared s ds ≡ wrote s (flat_map (λ (d : Decl). equal d.place.0 (Of d.name) Base) ds) 0
 declared_wrote s [] = sym (wrote_none s)
@@ -199,26 +220,33 @@ declared_wrote s (d ∷ ds) =
     declared_wrote (after_declared s d) ds ∙ ap (λ t. wrote t (flat_map (λ (d : Decl). equal d.place.0 (Of d.name) Base) ds) 0) (added_is s d.place.0 (Of d.name) Base)
     ∙ wrote_two s (equal d.place.0 (Of d.name) Base) (flat_map (λ (d : Decl). equal d.place.0 (Of d.name) Base) ds) 0 0 ∙ wrote_same s _ _ _ _ refl (omega arith)
 
-from_nothing : (cs ds : List Condition) (n : ℕ) → wrote (wrote empty_collection cs 0) ds n ≡ record { conditions = cs ++ ds; count = n }
-unfolding wrote
-from_nothing cs ds n = same_collection _ _ refl (omega arith)
+whole_is : (ds es : List Decl) (cs : List Condition) (rest : ℕ → List Condition) (n : ℕ)
+    → (let t = wrote (declaring empty_collection ds) cs 0 in declaring (wrote t (rest t.count) n) es) ≡ record { conditions = cs ++ rest 0; count = n; variables = names (ds ++ es) }
+unfolding wrote declaring
+whole_is ds es cs rest n =
+    same_collection _ _ (sym (map-append (λ (d : Decl). d.name) ds es)) refl (omega arith)
 
-nothing_counted : (cs : List Condition) → (wrote empty_collection cs 0).count ≡ 0
-unfolding wrote
-nothing_counted cs = omega arith
+declaring_two : (s : Collection) (ds es : List Decl) → declaring (declaring s ds) es ≡ declaring s (ds ++ es)
+unfolding declaring
+declaring_two s ds es = same_collection _ _ (append_assoc s.variables (names ds) (names es) ∙ ap (λ t. s.variables ++ t) (sym (map-append (λ (d : Decl). d.name) ds es))) refl refl
 
 pub whole_node : (node : Node)
-    → fold (after_part node) (fold after_last (fold after_last (fold after_declared (fold after_declared empty_collection node.inputs) node.outputs) node.outputs) node.block.locals) (flat_map (parts_of []) node.block.body) ≡ of_node node
+    → fold (after_part node)
+    (fold after_last (fold after_last (declaring (declaring (fold after_declared (fold after_declared (declaring empty_collection node.inputs) node.inputs) node.outputs) node.outputs) node.block.locals) node.outputs) node.block.locals)
+    (flat_map (parts_of []) node.block.body) ≡ of_node node
 whole_node node =
     let f : Decl → List Condition = λ d. equal d.place.0 (Of d.name) Base in
     let body = flat_map (parts_of []) node.block.body in
-    let s = wrote empty_collection (flat_map f (node.inputs ++ node.outputs)) 0 in
+    let locals = node.outputs ++ node.block.locals in
+    let cs = flat_map f (node.inputs ++ node.outputs) in
+    let s = wrote (declaring empty_collection node.inputs) cs 0 in
+    let first = fold after_declared (fold after_declared (declaring empty_collection node.inputs) node.inputs) node.outputs in
     ap (λ t. fold (after_part node) t body)
-    (sym (fold-append after_last (fold after_declared (fold after_declared empty_collection node.inputs) node.outputs) node.outputs node.block.locals)
-    ∙ ap (λ t. fold after_last t (node.outputs ++ node.block.locals)) (sym (fold-append after_declared empty_collection node.inputs node.outputs) ∙ declared_wrote empty_collection (node.inputs ++ node.outputs))
-    ∙ sym (part-Block node s [] (node.outputs ++ node.block.locals) (map (λ e. record { place = place_of e; label = tt; sets = sets_of e }) node.block.body)))
+    (ap (λ t. fold after_last (fold after_last t node.outputs) node.block.locals) (declaring_two first node.outputs node.block.locals)
+    ∙ sym (fold-append after_last (declaring first locals) node.outputs node.block.locals)
+    ∙ ap (λ t. fold after_last (declaring t locals) locals) (sym (fold-append after_declared (declaring empty_collection node.inputs) node.inputs node.outputs) ∙ declared_wrote (declaring empty_collection node.inputs) (node.inputs ++ node.outputs))
+    ∙ sym (part-Block node s [] locals (map (λ e. record { place = place_of e; label = tt; sets = sets_of e }) node.block.body)))
     ∙ parts_wrote node s (parts node)
-    ∙ ap (λ n. wrote s (numbered node n (parts node)) (length (expressions node))) (nothing_counted (flat_map f (node.inputs ++ node.outputs)))
-    ∙ from_nothing (flat_map f (node.inputs ++ node.outputs)) (numbered node 0 (parts node)) (length (expressions node))
+    ∙ whole_is node.inputs (flat_map (λ (q : Placed). declared_in q.part) (parts node)) cs (λ n. numbered node n (parts node)) (length (expressions node))
 
 pub ruleset whole = (take_all, fold_flat_more, whole_node)

@@ -2,8 +2,8 @@
 use Rattle.std.specs.Prelude.{ℕ, ◌+◌, Bool, if◌then◌else◌, is_some, List, [], ◌∷◌, ◌++◌, length, map, fold}
 use Rattle.std.specs.List.{flat_map}
 use Rattle.std.specs.Option.{option_to_list}
-use Rattle.hept_ast.specs.Texts.{Name}
-use Rattle.hept_ast.specs.Parts.{Part, Placed, inside, below, expressions_of, seen_at, declaration, expressions}
+use Rattle.hept_ast.specs.Texts.{Name, names}
+use Rattle.hept_ast.specs.Parts.{Part, Placed, inside, below, expressions_of, seen_at, declaration, declared_in, expressions, variables}
 use Rattle.hept_ast.specs.Clocks.{Term, Base, Of, On, Condition, equal, read_clock, term_of, reading, outer_read, expression, defined, declared_on_base, on_base, part_conditions, own_names, conditions}
 use Rattle.hept_ast.specs.declared.tree.Node.{Node}
 use Rattle.hept_ast.specs.declared.tree.Decl.{Decl}
@@ -14,26 +14,32 @@ use Rattle.hept_ast.specs.declared.tree.MergeBranch.{MergeBranch}
 use Rattle.clock_calculus.specs.Written.{condition_of}
 use Rattle.clock_calculus.specs.declared.conditions.Collected.{Collected}
 
--- the conditions so far, and how many expressions were met
+-- the conditions so far, how many expressions were met, and what was declared
 pub record Collection : Type 0 where
   pub conditions : List Condition
   pub count : ℕ
+  -- the variables that were declared
+  pub variables : List Name
 
 abbrev pub collection : Collected → Collection
-collection c = record { conditions = map condition_of c.conditions.items; count = c.expressions }
+collection c = record { conditions = map condition_of c.conditions.items; count = c.expressions; variables = map (λ r. r.now) c.variables.items }
 
 abbrev pub empty_collection : Collection
-empty_collection = record { conditions = []; count = 0 }
+empty_collection = record { conditions = []; count = 0; variables = [] }
 
 -- with one more expression, with one more condition, with more conditions
 unfoldable pub counted : Collection → Collection
-counted s = record { conditions = s.conditions; count = s.count + 1 }
+counted s = record { conditions = s.conditions; count = s.count + 1; variables = s.variables }
 
 unfoldable pub added : Collection → ℕ → Term → Term → Collection
-added s p l r = record { conditions = s.conditions ++ record { place = p; left = l; right = r } ∷ []; count = s.count }
+added s p l r = record { conditions = s.conditions ++ record { place = p; left = l; right = r } ∷ []; count = s.count; variables = s.variables }
 
 unfoldable pub wrote : Collection → List Condition → ℕ → Collection
-wrote s cs n = record { conditions = s.conditions ++ cs; count = s.count + n }
+wrote s cs n = record { conditions = s.conditions ++ cs; count = s.count + n; variables = s.variables }
+
+-- with more variables
+unfoldable pub declaring : Collection → List Decl → Collection
+declaring s ds = record { conditions = s.conditions; count = s.count; variables = s.variables ++ names ds }
 
 -- in a scope that declares these itself
 module _ (own : List Name) where
@@ -86,8 +92,8 @@ after_set seen s x = wrote s (flat_map (λ d. equal d.place.0 (Of x) Base) (opti
 
 -- after a part that stands at a site
 unfoldable pub after_part : Node → Collection → Placed → Collection
-after_part node s q = wrote s (part_conditions (own_names node q.site) (seen_at node q.site) s.count q.part) (length (flat_map inside (expressions_of q.part)))
+after_part node s q = wrote (declaring s (declared_in q.part)) (part_conditions (own_names node q.site) (seen_at node q.site) s.count q.part) (length (flat_map inside (expressions_of q.part)))
 
 -- a whole node
 abbrev pub of_node : Node → Collection
-of_node node = record { conditions = conditions node; count = length (expressions node) }
+of_node node = record { conditions = conditions node; count = length (expressions node); variables = names (variables node) }

@@ -1,9 +1,10 @@
 //! Conditions of clocks, as they are collected.
-ghost use Rattle.std.specs.Prelude.{◌≡◌, IfOk, OnOk};
-ghost use Rattle.clock_calculus.specs.Collecting.{added, collection, counted, empty_collection};
+ghost use Rattle.std.specs.Prelude.{◌≡◌, ◌++◌, IfOk, OnOk, map};
+ghost use Rattle.hept_ast.specs.Texts.{names as declared_names};
+ghost use Rattle.clock_calculus.specs.Collecting.{added, collection, counted, declaring, empty_collection};
 ghost use Rattle.clock_calculus.specs.Written.{base_term, clock_term};
 
-use hept_ast::{Memory, Name, Place, Tag};
+use hept_ast::{Decl, Memory, Name, Place, Tag};
 use std::alloc::Global;
 
 /// What a clock stands on: the base clock of the scope, or the clock of a variable or an expression.
@@ -37,11 +38,14 @@ pub(crate) struct Condition<'a> {
     pub right: Clock<'a>,
 }
 
-/// The conditions that were collected so far, and how many expressions were met.
+/// What was collected so far.
 #[derive(Drop)]
 pub(crate) struct Collected<'a> {
     pub conditions: Vec<Condition<'a>>,
+    /// How many expressions were met.
     pub expressions: usize,
+    /// The variables that were declared.
+    pub variables: Vec<&'a Name>,
 }
 
 impl<'a> Base<'a> {
@@ -63,6 +67,7 @@ impl<'a> Collected<'a> {
         Collected {
             conditions: Vec::new(alloc),
             expressions: 0,
+            variables: Vec::new(alloc),
         }
     }
 
@@ -97,4 +102,23 @@ impl<'a> Collected<'a> {
             Err(_) => Err(Memory),
         }
     }
+
+    /// Notes the variables that are declared.
+    #[tactic(auto, unfolding(crate::specs::Collecting::declaring))]
+    pub(crate) fn declare(&mut self, decls: &'a [Decl]) -> Result<(), Memory>
+        ensures { OnOk result (collection self.new ≡ declaring (collection self.old) decls.now) }
+    {
+        push_names(&mut self.variables, decls)
+    }
+}
+
+fn push_names<'a>(names: &mut Vec<&'a Name>, decls: &'a [Decl]) -> Result<(), Memory>
+    ensures { OnOk result (map (λ r. r.now) names.new.items ≡ map (λ r. r.now) names.old.items ++ declared_names decls.now) }
+{
+    for decl in decls {
+        if names.push(&decl.name).is_err() {
+            return Err(Memory);
+        }
+    }
+    Ok(())
 }

@@ -219,6 +219,7 @@ fn push_block<'a>(
 ) -> Result<(), Memory>
     ensures { OnOk result (collection out.new ≡ fold (after_part scope.now.node.now) (collection out.old) (block_parts (site_of scope.now) block.now)) }
 {
+    out.declare(block.locals.as_slice())?;
     push_lasts(out, block.locals.as_slice())?;
     for equation in block.body.as_slice() {
         push_equation(alloc, out, scope, equation)?;
@@ -279,14 +280,17 @@ fn push_state<'a>(
     push_escapes(out, scope, state.strong.as_slice())
 }
 
-/// The conditions of a node, and the number of its expressions.
+/// The conditions of a node, the number of its expressions, and its variables.
 #[tactic(auto, using(crate::proofs::Walked::whole))]
 pub(crate) fn collect<'a>(alloc: Global, node: &'a Node) -> Result<Collected<'a>, Memory>
     ensures { IfOk result (λ c. collection c ≡ of_node node.now) }
 {
     let mut out = Collected::new(alloc);
+    out.declare(node.inputs.as_slice())?;
     push_all_declared(&mut out, node.inputs.as_slice())?;
     push_all_declared(&mut out, node.outputs.as_slice())?;
+    out.declare(node.outputs.as_slice())?;
+    out.declare(node.block.locals.as_slice())?;
     push_lasts(&mut out, node.outputs.as_slice())?;
     push_lasts(&mut out, node.block.locals.as_slice())?;
     let scope = Scope {
