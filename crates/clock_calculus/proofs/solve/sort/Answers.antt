@@ -1,0 +1,6 @@
+use Rattle.std.proofs.Common.{rules}
+use Rattle.std.proofs.lemmas.List.Sorted.{IsNonDecreasingBy-from_sort_by_key}
+use Rattle.clock_calculus.proofs.solve.sort.Goals as goal
+
+pub returns-in-Ok-clause-sorted : goal.returns-in-Ok-clause-sorted
+returns-in-Ok-clause-sorted c = IsNonDecreasingBy-from_sort_by_key (λ x. x.place.0) _ (c.in-Ok.ensures.sorted) (λ a r q k. search rules)
