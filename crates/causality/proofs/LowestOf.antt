@@ -86,7 +86,6 @@ pub none_then : {X Y : Type 0} (F : Y → List ℕ) (G : X → List Y) (y : Y) (
 none_then F G y xs zs first p f same h =
     h ∙ ap (λ t. lower first (lowest t)) (ap (flat_map (λ x. flat_map F (G x))) same ∙ (sym (flat_flat F G xs) ∙ ap (λ t. t ++ flat_map F (flat_map G xs)) (sym f)))
 
-
 pub in_three : {Y : Type 0} (F : Y → List ℕ) (ps qs rs : List Y) (us vs : List ℕ) (first o p q : Option ℕ) → flat_map F qs ≡ us → flat_map F rs ≡ vs
     → o ≡ lower first (lowest (flat_map F ps)) → p ≡ lower o (lowest us) → q ≡ lower p (lowest vs) → q ≡ lower first (lowest (flat_map F (ps ++ qs ++ rs)))
 in_three F ps qs rs us vs first o p q a b e h k =

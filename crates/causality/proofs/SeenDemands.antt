@@ -2,7 +2,6 @@
 use Rattle.std.proofs.Common.{◌≡◌, ℕ, List, [], ◌∷◌, ◌++◌, refl, sym, ◌∙◌, ap, append-nil, append_assoc, Some, None}
 use Rattle.std.specs.Prelude.{Option}
 use Rattle.std.specs.List.{flat_map, filter_map, cons_option}
-
 use Rattle.hept_ast.specs.Texts.{Name}
 use Rattle.hept_ast.specs.Initial.{Grades, unmet_decl, unmet_expr, unmet_outside}
 use Rattle.hept_ast.specs.Parts.{Case, block_sets, branch_case, state_case, declaration}

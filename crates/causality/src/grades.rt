@@ -6,8 +6,8 @@ ghost use Rattle.causality.specs.Flows.{flow_of};
 ghost use Rattle.causality.specs.Rounds.{AreNil, is_nil, next_nil};
 
 use crate::flows::Flow;
-use node_text::{is_listed, push_names};
 use hept_ast::{Expr, Form, Memory, Name};
+use node_text::{is_listed, push_names};
 use std::alloc::Global;
 
 /// Whether an expression may be undefined where these variables may be.
@@ -77,10 +77,7 @@ fn next_nil<'a>(
 }
 
 /// The variables that may be undefined.
-pub(crate) fn nil_variables<'a>(
-    alloc: Global,
-    flows: &[Flow<'a>],
-) -> Result<Vec<&'a Name>, Memory>
+pub(crate) fn nil_variables<'a>(alloc: Global, flows: &[Flow<'a>]) -> Result<Vec<&'a Name>, Memory>
     ensures { IfOk result (λ v. AreNil (map flow_of flows.now) (map (λ r. r.now) v.items)) }
 {
     let mut nil = Vec::new(alloc);

@@ -27,18 +27,20 @@ pub enum InitFault {
 }
 
 /// Notes what the parts of a node demand.
-fn note_parts(
-    alloc: Global,
-    found: &mut Unmet,
-    node: &Node,
-    nil: &[&Name],
-) -> Result<(), Memory>
+fn note_parts(alloc: Global, found: &mut Unmet, node: &Node, nil: &[&Name]) -> Result<(), Memory>
     ensures { OnOk result (found.new ≡ lower found.old (lowest (unmet_parts (grades_from (map (λ r. r.now) nil.now)) node.now))) }
 {
     let own = own_declarations(alloc, node)?;
     note_lasts(found, node.outputs.as_slice(), nil);
     note_lasts(found, node.block.locals.as_slice(), nil);
-    note_body(alloc, found, &[], own.as_slice(), node.block.body.as_slice(), nil)
+    note_body(
+        alloc,
+        found,
+        &[],
+        own.as_slice(),
+        node.block.body.as_slice(),
+        nil,
+    )
 }
 
 /// Notes the demands of a node that its least grades do not meet.

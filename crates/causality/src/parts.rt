@@ -17,13 +17,7 @@ use std::alloc::Global;
 
 /// Notes a variable by its name, where it is declared among what is seen.
 #[tactic(auto, using(crate::proofs::LowestOf::lowest_of))]
-fn note_declared(
-    found: &mut Unmet,
-    inner: &[&Decl],
-    own: &[&Decl],
-    name: &Name,
-    nil: &[&Name],
-)
+fn note_declared(found: &mut Unmet, inner: &[&Decl], own: &[&Decl], name: &Name, nil: &[&Name])
     ensures { found.new ≡ lower found.old (lowest (unmet_declared (grades_from (map (λ r. r.now) nil.now)) (declaration (map (λ r. r.now) inner.now ++ map (λ r. r.now) own.now) name.now))) }
 {
     match declaration_at(inner, own, name) {
@@ -175,7 +169,14 @@ fn note_block<'a>(
 {
     note_lasts(found, block.locals.as_slice(), nil);
     let inside = declared_inside(alloc, block.locals.as_slice(), inner)?;
-    note_body(alloc, found, inside.as_slice(), own, block.body.as_slice(), nil)
+    note_body(
+        alloc,
+        found,
+        inside.as_slice(),
+        own,
+        block.body.as_slice(),
+        nil,
+    )
 }
 
 #[cycle(demands)]

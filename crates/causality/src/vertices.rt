@@ -66,11 +66,7 @@ fn push_numbers(row: &mut Items<usize>, vertices: &[&Name], names: &[&Name]) -> 
 }
 
 /// Appends what an equation reads, where it defines a variable.
-fn push_if_defined<'a>(
-    names: &mut Vec<&'a Name>,
-    flow: &Flow<'a>,
-    x: &Name,
-) -> Result<(), Memory>
+fn push_if_defined<'a>(names: &mut Vec<&'a Name>, flow: &Flow<'a>, x: &Name) -> Result<(), Memory>
     ensures { OnOk result (map (λ r. r.now) names.new.items ≡ map (λ r. r.now) names.old.items ++ (if is_in x.now (flow_of flow.now).left then (flow_of flow.now).reads else [])) }
 {
     if is_among(x, flow.left) {

@@ -85,10 +85,7 @@ fn push_of_piece<'a>(exprs: &mut Vec<&'a Expr>, piece: Piece<'a>) -> Result<(), 
 }
 
 /// Appends all expressions of some parts.
-pub fn push_expressions<'a>(
-    exprs: &mut Vec<&'a Expr>,
-    pieces: &[Piece<'a>],
-) -> Result<(), Memory>
+pub fn push_expressions<'a>(exprs: &mut Vec<&'a Expr>, pieces: &[Piece<'a>]) -> Result<(), Memory>
     ensures { OnOk result (map (λ r. r.now) exprs.new.items ≡ map (λ r. r.now) exprs.old.items ++ flat_map expressions_in (map piece_of pieces.now)) }
 {
     for piece in pieces {

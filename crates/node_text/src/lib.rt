@@ -7,7 +7,9 @@ mod names;
 mod pieces;
 mod sets;
 
-pub use declarations::{declaration, declaration_at, declared_inside, node_variables, own_declarations};
+pub use declarations::{
+    declaration, declaration_at, declared_inside, node_variables, own_declarations,
+};
 pub use expressions::{node_expressions, push_expressions, push_inside};
 pub use names::{is_among, is_listed, is_same, push_listed, push_name, push_names};
 pub use pieces::{Piece, push_equations};

@@ -45,10 +45,7 @@ fn push_escapes<'a>(
 /// Appends an equation and all parts inside it.
 #[cycle(parts)]
 #[tactic(auto, using(hept_ast::proofs::InnerParts::inner_parts_of))]
-pub fn push_equation<'a>(
-    pieces: &mut Vec<Piece<'a>>,
-    equation: &'a Equation,
-) -> Result<(), Memory>
+pub fn push_equation<'a>(pieces: &mut Vec<Piece<'a>>, equation: &'a Equation) -> Result<(), Memory>
     ensures { OnOk result (map piece_of pieces.new.items ≡ map piece_of pieces.old.items ++ inner_parts equation.now) }
 {
     match equation {

@@ -13,7 +13,7 @@ find_cycle-requires c =
     let vs : map (λ r. r.now) c.as_slice-2.result.now ≡ vertices node = ap (map (λ r. r.now)) c.as_slice-2.ensures.value ∙ c.in_ok-vertices.ensures in
     let fs : map flow_of c.as_slice-3.result.now ≡ node_flows node = ap (map flow_of) c.as_slice-3.ensures.value ∙ c.in_ok-flows.ensures in
     let is : c.as_slice-4.result.now ≡ graph_by (vertices node) (node_flows node) clock =
-        c.as_slice-4.ensures.value ∙ (c.in_ok-graph.ensures ∙ (ap (λ v. graph_by v (map flow_of c.as_slice-3.result.now) clock) vs ∙ ap (λ f. graph_by (vertices node) f clock) fs)) in
+    c.as_slice-4.ensures.value ∙ (c.in_ok-graph.ensures ∙ (ap (λ v. graph_by v (map flow_of c.as_slice-3.result.now) clock) vs ∙ ap (λ f. graph_by (vertices node) f clock) fs)) in
     subst InRange (sym is) (in_range node clock)
 
 pub names_of-requires : goal.names_of-requires
@@ -23,7 +23,7 @@ names_of-requires c =
     let vs : map (λ r. r.now) c.as_slice-2.result.now ≡ vertices node = ap (map (λ r. r.now)) c.as_slice-2.ensures.value ∙ c.in_ok-vertices.ensures in
     let fs : map flow_of c.as_slice-3.result.now ≡ node_flows node = ap (map flow_of) c.as_slice-3.ensures.value ∙ c.in_ok-flows.ensures in
     let is : c.as_slice-4.result.now ≡ graph_by (vertices node) (node_flows node) clock =
-        c.as_slice-4.ensures.value ∙ (c.in_ok-graph.ensures ∙ (ap (λ v. graph_by v (map flow_of c.as_slice-3.result.now) clock) vs ∙ ap (λ f. graph_by (vertices node) f clock) fs)) in
+    c.as_slice-4.ensures.value ∙ (c.in_ok-graph.ensures ∙ (ap (λ v. graph_by v (map flow_of c.as_slice-3.result.now) clock) vs ∙ ap (λ f. graph_by (vertices node) f clock) fs)) in
     let found = cycle_found node clock c.as_slice-4.result.now is c.in_ok-cycle.field-0 (c.in_ok-cycle.ensures {u = tt}) c.in-Some.cycle c.in-Some.is in
     all_within (λ r. r.now) c.as_slice-in-Some.result.now node clock c.in-Some.cycle.items c.as_slice-in-Some-2.result.now
     (ap (map (λ r. r.now)) c.as_slice-in-Some.ensures.value ∙ c.in_ok-vertices.ensures) c.as_slice-in-Some-2.ensures.value found.0.cycle
@@ -35,7 +35,7 @@ returns-in-Some c =
     let vs : map (λ r. r.now) c.as_slice-2.result.now ≡ vertices node = ap (map (λ r. r.now)) c.as_slice-2.ensures.value ∙ c.in_ok-vertices.ensures in
     let fs : map flow_of c.as_slice-3.result.now ≡ node_flows node = ap (map flow_of) c.as_slice-3.ensures.value ∙ c.in_ok-flows.ensures in
     let is : c.as_slice-4.result.now ≡ graph_by (vertices node) (node_flows node) clock =
-        c.as_slice-4.ensures.value ∙ (c.in_ok-graph.ensures ∙ (ap (λ v. graph_by v (map flow_of c.as_slice-3.result.now) clock) vs ∙ ap (λ f. graph_by (vertices node) f clock) fs)) in
+    c.as_slice-4.ensures.value ∙ (c.in_ok-graph.ensures ∙ (ap (λ v. graph_by v (map flow_of c.as_slice-3.result.now) clock) vs ∙ ap (λ f. graph_by (vertices node) f clock) fs)) in
     let found = cycle_found node clock c.as_slice-4.result.now is c.in_ok-cycle.field-0 (c.in_ok-cycle.ensures {u = tt}) c.in-Some.cycle c.in-Some.is in
     subst (IsNodeCycle node clock)
     (sym (c.in_ok-vars-in-Some.ensures {u = tt}
@@ -49,5 +49,5 @@ returns c =
     let vs : map (λ r. r.now) c.as_slice-2.result.now ≡ vertices node = ap (map (λ r. r.now)) c.as_slice-2.ensures.value ∙ c.in_ok-vertices.ensures in
     let fs : map flow_of c.as_slice-3.result.now ≡ node_flows node = ap (map flow_of) c.as_slice-3.ensures.value ∙ c.in_ok-flows.ensures in
     let is : c.as_slice-4.result.now ≡ graph_by (vertices node) (node_flows node) clock =
-        c.as_slice-4.ensures.value ∙ (c.in_ok-graph.ensures ∙ (ap (λ v. graph_by v (map flow_of c.as_slice-3.result.now) clock) vs ∙ ap (λ f. graph_by (vertices node) f clock) fs)) in
+    c.as_slice-4.ensures.value ∙ (c.in_ok-graph.ensures ∙ (ap (λ v. graph_by v (map flow_of c.as_slice-3.result.now) clock) vs ∙ ap (λ f. graph_by (vertices node) f clock) fs)) in
     none_found node clock c.as_slice-4.result.now is c.in_ok-cycle.field-0 (c.in_ok-cycle.ensures {u = tt}) c.requires c.in-None.is
