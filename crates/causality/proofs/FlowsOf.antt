@@ -4,8 +4,8 @@ use Rattle.std.specs.List.{flat_map}
 use Rattle.std.proofs.lemmas.Grind.{flat_map-append}
 use Rattle.std.proofs.lemmas.List.{map-append, take_all}
 use Rattle.hept_ast.specs.Texts.{Name}
-use Rattle.hept_ast.specs.Causal.{reads, reads_around}
-use Rattle.hept_ast.specs.Parts.{Branch_of, Body_of, State_of, Surroundings, Part, Block, Plain, Switch, Reset, Automaton, Transition, Placed, equations_in, branches_in, states_in, strong_in, sets_of_body, transitions, conditions_of, parts, parts_of, parts_of_all, parts_of_branches, parts_of_body, parts_of_states, block_parts, strong_of_all, state_parts, state_case, branch_case, block_sets, equation_case}
+use Rattle.hept_ast.specs.Causal.{reads}
+use Rattle.hept_ast.specs.Parts.{Branch_of, Body_of, State_of, Surroundings, Plain, Placed, states_in, strong_in, transitions, conditions_of, parts, parts_of, parts_of_all, parts_of_branches, parts_of_body, parts_of_states, block_parts, strong_of_all, state_parts, state_case}
 use Rattle.hept_ast.specs.declared.name.Place.{Place}
 use Rattle.hept_ast.specs.declared.tree.Expr.{Expr}
 use Rattle.hept_ast.specs.declared.tree.Node.{Node}

@@ -1,27 +1,26 @@
 -- The demands of a node, by its parts, and those of all nodes.
-use Rattle.std.proofs.Common.{◌≡◌, ℕ, zero, suc, ◌+◌, ◌<◌, ◌≤◌, min, List, [], ◌∷◌, ◌++◌, length, map, refl, sym, ◌∙◌, ap, subst, arith, append-nil, append_assoc, Some, None, Bool, true, false, if◌then◌else◌, ◌⊎◌, inl, inr, Contains, All, slice_index_or}
-use Rattle.std.specs.Prelude.{Option, IsTrue, slice_get}
+use Rattle.std.proofs.Common.{◌≡◌, ℕ, ◌+◌, ◌<◌, ◌≤◌, min, List, [], ◌∷◌, ◌++◌, length, map, refl, sym, ◌∙◌, ap, subst, arith, append-nil, append_assoc, Some, None, Bool, true, false, if◌then◌else◌, ◌⊎◌, inl, inr, Contains, slice_index_or}
+use Rattle.std.specs.Prelude.{Option, slice_get}
 use Rattle.std.specs.List.{flat_map, list_any}
 use Rattle.std.proofs.Math.Path.{fun_ext}
 use Rattle.std.proofs.lemmas.Grind.{flat_map-append}
 use Rattle.std.proofs.lemmas.Option.{slice_get-get_or, slice_get_within, none-some}
-use Rattle.std.proofs.lemmas.List.Elements.{Contains-append_left, Contains-append_right, Contains-append_cases}
+use Rattle.std.proofs.lemmas.List.Elements.{Contains-append_right, Contains-append_cases}
 use Rattle.hept_ast.specs.Texts.{Name, is_in}
-use Rattle.hept_ast.specs.Initial.{Grades, grade, AreGrades, AreLeastGrades, right_sides, right_sides_in, unmet_in, unmet_part, IsInitialised, IsUnmet, IsMayBeNil}
-use Rattle.hept_ast.specs.Parts.{Surroundings, Part, Block, Plain, Switch, Reset, Automaton, Transition, Placed, parts, seen_at, locals_around, equation_case}
-use Rattle.hept_ast.specs.SeenParts.{SeenPart, seen_in, seen_parts}
+use Rattle.hept_ast.specs.Initial.{Grades, grade, AreLeastGrades, right_sides, right_sides_in, unmet_in, unmet_part, IsInitialised, IsMayBeNil}
+use Rattle.hept_ast.specs.Parts.{Part, Block, Plain, Switch, Reset, Automaton, Transition, Placed, parts, seen_at, locals_around}
+use Rattle.hept_ast.specs.SeenParts.{seen_in, seen_parts}
 use Rattle.hept_ast.proofs.SeenParts.{seen_node}
 use Rattle.hept_ast.specs.declared.tree.Program.{Program}
-use Rattle.hept_ast.specs.declared.tree.Decl.{Decl}
 use Rattle.hept_ast.specs.declared.tree.Expr.{Expr}
 use Rattle.hept_ast.specs.declared.tree.Node.{Node}
 use Rattle.causality.specs.Flows.{DataFlow, flow_in, flow_by, node_flows}
-use Rattle.causality.specs.Rounds.{rights, AreGradesOf, AreNil}
+use Rattle.causality.specs.Rounds.{rights, AreNil}
 use Rattle.causality.specs.Lowest.{lower, lowest}
 use Rattle.causality.specs.Demands.{unmet_last, unmet_seen, unmet_in_equation, unmet_parts}
 use Rattle.causality.specs.Initialised.{IsNoted, IsUnmetAt, AreNoted}
 use Rattle.causality.proofs.FlowsOf.{flows_of_parts}
-use Rattle.causality.proofs.LowestOf.{flat_flat, flat_mapped, lowest-nil, lowest-cons}
+use Rattle.causality.proofs.LowestOf.{flat_flat, lowest-nil, lowest-cons}
 use Rattle.causality.proofs.Ranks.{same_or_not}
 use Rattle.causality.proofs.Rounds.{are_grades}
 

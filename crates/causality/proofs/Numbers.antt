@@ -1,11 +1,11 @@
 -- Numbers of names, and how cycles of numbers are those of names.
-use Rattle.std.proofs.Common.{Vec, Global, ◌≡◌, ℕ, zero, suc, ◌+◌, ◌-◌, ◌<◌, ◌≤◌, min, add-one, List, [], ◌∷◌, ◌++◌, length, map, refl, sym, ◌∙◌, ap, subst, arith, append-nil, append_assoc, Bool, true, false, ◌||◌, if◌then◌else◌, ◌==◌, cond, ◌⊎◌, inl, inr, Contains, All, slice_index, slice_index_or}
-use Rattle.std.specs.Prelude.{MatchOption, IsTrue, nat_lt, count_by, ⊤}
-use Rattle.std.specs.List.{flat_map, list_any}
-use Rattle.std.proofs.lemmas.Bool.{false≢true, true≢false, ltb-true, lt-ltb}
+use Rattle.std.proofs.Common.{Vec, Global, ◌≡◌, ℕ, zero, suc, ◌+◌, ◌<◌, ◌≤◌, min, add-one, List, [], ◌∷◌, ◌++◌, length, map, refl, sym, ◌∙◌, ap, subst, arith, append-nil, Bool, true, false, ◌||◌, if◌then◌else◌, ◌==◌, cond, ◌⊎◌, inl, inr, Contains, All, slice_index_or}
+use Rattle.std.specs.Prelude.{MatchOption, nat_lt, count_by, ⊤}
+use Rattle.std.specs.List.{flat_map}
+use Rattle.std.proofs.lemmas.Bool.{false≢true, ltb-true, lt-ltb}
 use Rattle.std.proofs.lemmas.Bool.Decides.{nat_tests}
 use Rattle.std.proofs.lemmas.Grind.{flat_map-append}
-use Rattle.std.proofs.lemmas.List.{length-map, length-append, get_or-map, get_or_past}
+use Rattle.std.proofs.lemmas.List.{length-map, get_or-map, get_or_past}
 use Rattle.std.proofs.lemmas.List.Folds.{list_any-append}
 use Rattle.std.proofs.lemmas.List.Sums.{sum_by-append}
 use Rattle.std.proofs.lemmas.List.Elements.{All-append, All-cons, Contains-append_left, Contains-append_right, Contains-append_cases}
@@ -13,7 +13,7 @@ use Rattle.std.proofs.lemmas.Slice.Eq.{bytes_eq-Decides}
 use Rattle.hept_ast.specs.Texts.{Name, same, is_in, place_in, names}
 use Rattle.hept_ast.specs.Scopes.{Clock}
 use Rattle.hept_ast.specs.Parts.{Surroundings, Part, Block, Plain, Switch, Reset, Automaton, Transition, Placed, parts, variables}
-use Rattle.hept_ast.specs.Causal.{InTurn, IsCycle, HasNoCycle, Reads, reads_in, variable_reads, BeginsWithFirst, HasNoneTwice}
+use Rattle.hept_ast.specs.Causal.{InTurn, IsCycle, HasNoCycle, Reads, reads_in, variable_reads, BeginsWithFirst}
 use Rattle.std.specs.Prelude.{Option, Some, None, is_some, slice_get}
 use Rattle.hept_ast.specs.ClockMaps.{ClockMap, clock_in, path_in, steps_or_none}
 use Rattle.hept_ast.specs.Stages.{HasLeastClocks, declares_in}

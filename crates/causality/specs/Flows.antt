@@ -1,5 +1,5 @@
 -- What the plain equations of a node define, from what, and what they read.
-use Rattle.std.specs.Prelude.{ℕ, List, [], ◌∷◌, ◌++◌, map}
+use Rattle.std.specs.Prelude.{List, [], ◌∷◌, ◌++◌, map}
 use Rattle.std.specs.List.{flat_map}
 use Rattle.hept_ast.specs.Texts.{Name}
 use Rattle.hept_ast.specs.Causal.{reads, reads_around}

@@ -1,5 +1,5 @@
 -- Which variables of a node may be undefined, by rounds: each adds what equations define from what may be undefined so far.
-use Rattle.std.specs.Prelude.{◌≡◌, ℕ, Bool, if◌then◌else◌, IsTrue, List, [], ◌∷◌}
+use Rattle.std.specs.Prelude.{◌≡◌, Bool, if◌then◌else◌, IsTrue, List, [], ◌∷◌}
 use Rattle.std.specs.List.{list_any, flat_map}
 use Rattle.hept_ast.specs.Texts.{Name, is_in}
 use Rattle.hept_ast.specs.Initial.{Grades, grade}

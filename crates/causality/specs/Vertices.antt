@@ -1,10 +1,10 @@
 -- The variables of a node as numbers, and what they read as a graph.
-use Rattle.std.specs.Prelude.{◌≡◌, ℕ, ⊤, if◌then◌else◌, nat_lt, IsTrue, List, [], ◌∷◌, ◌++◌, length, map, slice_index_or}
+use Rattle.std.specs.Prelude.{ℕ, if◌then◌else◌, nat_lt, IsTrue, List, [], ◌∷◌, ◌++◌, length, map, slice_index_or}
 use Rattle.std.specs.List.{flat_map}
 use Rattle.hept_ast.specs.Texts.{Name, is_in, place_in, names}
 use Rattle.hept_ast.specs.Scopes.{Clock}
 use Rattle.hept_ast.specs.Parts.{variables}
-use Rattle.hept_ast.specs.Causal.{variable_reads, IsCycle, BeginsWithFirst, HasNoneTwice, Reads}
+use Rattle.hept_ast.specs.Causal.{IsCycle, BeginsWithFirst, HasNoneTwice, Reads}
 use Rattle.hept_ast.specs.declared.tree.Node.{Node}
 use Rattle.causality.specs.Flows.{DataFlow, node_flows}
 use Rattle.causality.specs.Graph.{Graph}

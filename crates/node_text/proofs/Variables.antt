@@ -2,7 +2,7 @@
 use Rattle.std.proofs.Common.{◌≡◌, List, [], ◌∷◌, ◌++◌, refl, sym, ◌∙◌, ap, map, append-nil, append_assoc}
 use Rattle.std.specs.List.{flat_map}
 use Rattle.std.proofs.lemmas.List.{map-append}
-use Rattle.hept_ast.specs.Texts.{Name, names}
+use Rattle.hept_ast.specs.Texts.{names}
 use Rattle.hept_ast.specs.Parts.{Placed, declared_in, variables, parts_of}
 use Rattle.hept_ast.specs.InnerParts.{inner_parts}
 use Rattle.hept_ast.specs.declared.tree.Decl.{Decl}

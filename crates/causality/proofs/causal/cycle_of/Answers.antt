@@ -1,4 +1,4 @@
-use Rattle.std.proofs.Common.{◌≡◌, List, ℕ, ◌∙◌, ap, map, subst, sym}
+use Rattle.std.proofs.Common.{◌≡◌, ◌∙◌, ap, map, subst, sym}
 use Rattle.hept_ast.specs.ClockMaps.{clock_in}
 use Rattle.causality.specs.Flows.{flow_of, node_flows}
 use Rattle.causality.specs.Graph.{InRange}

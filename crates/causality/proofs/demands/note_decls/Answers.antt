@@ -1,6 +1,6 @@
 use Rattle.std.proofs.Common.{map}
 use Rattle.hept_ast.specs.Initial.{unmet_decl}
-use Rattle.causality.specs.Demands.{grades_from, unmet_last}
+use Rattle.causality.specs.Demands.{grades_from}
 use Rattle.causality.proofs.LowestOf.{lowest_step}
 use Rattle.causality.proofs.demands.note_decls.Goals as goal
 

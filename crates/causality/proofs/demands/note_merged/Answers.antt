@@ -1,7 +1,7 @@
 use Rattle.std.proofs.Common.{map}
 use Rattle.hept_ast.specs.Initial.{unmet_expr}
 use Rattle.hept_ast.specs.declared.tree.MergeBranch.{MergeBranch}
-use Rattle.causality.specs.Demands.{grades_from, unmet_last}
+use Rattle.causality.specs.Demands.{grades_from}
 use Rattle.causality.proofs.LowestOf.{lowest_step}
 use Rattle.causality.proofs.demands.note_merged.Goals as goal
 

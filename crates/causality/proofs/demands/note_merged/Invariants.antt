@@ -2,7 +2,7 @@ use Rattle.std.proofs.Common.{◌≡◌, map, take}
 use Rattle.std.specs.List.{flat_map}
 use Rattle.hept_ast.specs.Initial.{unmet_expr}
 use Rattle.causality.specs.Lowest.{lower, lowest}
-use Rattle.causality.specs.Demands.{grades_from, unmet_last}
+use Rattle.causality.specs.Demands.{grades_from}
 use Rattle.causality.proofs.demands.note_merged.Given as goal
 
 abbrev pub invariant-loop-branch : goal.invariant-loop-branch

@@ -1,7 +1,7 @@
 use Rattle.std.proofs.Common.{map}
 use Rattle.hept_ast.specs.Initial.{unmet_by}
 use Rattle.hept_ast.specs.declared.tree.Expr.{Expr}
-use Rattle.causality.specs.Demands.{grades_from, unmet_last}
+use Rattle.causality.specs.Demands.{grades_from}
 use Rattle.causality.proofs.LowestOf.{lowest_mapped}
 use Rattle.causality.proofs.demands.note_operands.Goals as goal
 

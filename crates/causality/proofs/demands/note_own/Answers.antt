@@ -1,6 +1,6 @@
 use Rattle.hept_ast.specs.Initial.{unmet, unmet_expr}
 use Rattle.hept_ast.specs.declared.tree.MergeBranch.{MergeBranch}
-use Rattle.std.proofs.Common.{◌≡◌, List, ℕ, map, subst}
+use Rattle.std.proofs.Common.{◌≡◌, map, subst}
 use Rattle.std.specs.List.{flat_map}
 use Rattle.causality.specs.Demands.{grades_from}
 use Rattle.causality.specs.Lowest.{lower, lowest}

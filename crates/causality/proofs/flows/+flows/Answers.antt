@@ -1,6 +1,5 @@
-use Rattle.std.proofs.Common.{◌≡◌, ◌++◌, List, ℕ, ◌∙◌, OnOk, ap, map, subst}
+use Rattle.std.proofs.Common.{◌≡◌, ◌++◌, ◌∙◌, OnOk, ap, map, subst}
 use Rattle.std.specs.List.{flat_map}
-use Rattle.hept_ast.specs.Causal.{reads}
 use Rattle.hept_ast.specs.declared.tree.Branch.{Branch}
 use Rattle.hept_ast.specs.declared.tree.State.{State}
 use Rattle.causality.specs.Flows.{flow_of, flows_of_all, strong_reads}

@@ -1,8 +1,8 @@
-use Rattle.std.proofs.Common.{◌≡◌, ◌<◌, ◌≤◌, ◌-◌, ℕ, List, arith, length, map, sym, ◌∙◌, ap, subst, true}
+use Rattle.std.proofs.Common.{◌≡◌, ◌≤◌, ℕ, List, arith, length, map, sym, ◌∙◌, ap, subst}
 use Rattle.std.proofs.lemmas.Grind.{common_steps}
 use Rattle.std.proofs.lemmas.List.{length-map}
 use Rattle.causality.specs.Flows.{flow_of}
-use Rattle.causality.specs.Rounds.{IsRound, next_nil, lefts_where}
+use Rattle.causality.specs.Rounds.{IsRound, next_nil}
 use Rattle.causality.proofs.Rounds.{no_round, next_round, round_longer, round_within, round_ends}
 use Rattle.causality.proofs.grades.nil_variables.Goals as goal
 

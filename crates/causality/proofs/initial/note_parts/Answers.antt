@@ -1,4 +1,4 @@
-use Rattle.std.proofs.Common.{◌≡◌, ◌++◌, List, ℕ, ◌∙◌, OnOk, [], ap, map, subst}
+use Rattle.std.proofs.Common.{◌≡◌, ◌++◌, ◌∙◌, OnOk, [], ap, map, subst}
 use Rattle.std.specs.List.{flat_map}
 use Rattle.causality.specs.Demands.{grades_from, unmet_last, unmet_in_equation}
 use Rattle.causality.specs.Lowest.{lower, lowest}

@@ -1,5 +1,4 @@
-use Rattle.std.proofs.Common.{◌≡◌, ◌++◌, ℕ, ◌+◌, ◌<◌, length, map, take, drop}
-use Rattle.std.specs.List.{flat_map}
+use Rattle.std.proofs.Common.{◌≡◌, ◌++◌, map, take}
 use Rattle.causality.specs.Flows.{flow_of}
 use Rattle.hept_ast.specs.ClockMaps.{clock_in}
 use Rattle.causality.specs.Vertices.{numbers, flow_reads, clock_reads}

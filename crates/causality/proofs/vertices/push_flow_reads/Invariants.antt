@@ -1,5 +1,4 @@
-use Rattle.std.proofs.Common.{◌≡◌, ◌++◌, ℕ, ◌+◌, ◌<◌, length, map, take, drop}
-use Rattle.std.specs.List.{flat_map}
+use Rattle.std.proofs.Common.{◌≡◌, ◌++◌, map, take}
 use Rattle.causality.specs.Flows.{flow_of}
 use Rattle.causality.specs.Vertices.{flow_reads}
 use Rattle.causality.proofs.vertices.push_flow_reads.Given as goal
