@@ -104,15 +104,15 @@ pub judged-types : {A : Type 0} (p : ℕ) (own : List Fault) (operands : Judged 
     → (judged p own operands fit).types ≡ settled (option_map fit operands.types) (stands own)
 judged-types p own operands fit clean = types_of p own operands.faults operands.types fit clean
 
-clean_by : (p : ℕ) (own : List Fault) (fit : Fit) → Clean (judged_by p own fit).faults (judged_by p own fit).types
-clean_by p [] (Fits ts) = refl
-clean_by p (f ∷ fs) (Fits ts) = tt
-clean_by p own Misfit = tt
-clean_by p own Untyped = tt
+pub judged_by-clean : (p : ℕ) (own : List Fault) (fit : Fit) → Clean (judged_by p own fit).faults (judged_by p own fit).types
+judged_by-clean p [] (Fits ts) = refl
+judged_by-clean p (f ∷ fs) (Fits ts) = tt
+judged_by-clean p own Misfit = tt
+judged_by-clean p own Untyped = tt
 
 clean_of : {A : Type 0} (p : ℕ) (fs : List Fault) (types : Option A) (fit : A → Fit) → Clean (judged_of p fs types fit).faults (judged_of p fs types fit).types
 clean_of p fs None fit = tt
-clean_of p fs (Some ts) fit = clean_by p fs (fit ts)
+clean_of p fs (Some ts) fit = judged_by-clean p fs (fit ts)
 
 pub judged-clean : {A : Type 0} (p : ℕ) (own : List Fault) (operands : Judged A) (fit : A → Fit) → Clean (judged p own operands fit).faults (judged p own operands fit).types
 judged-clean p own operands fit = clean_of p (own ++ operands.faults) operands.types fit

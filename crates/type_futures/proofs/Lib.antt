@@ -12,3 +12,5 @@ pub mod LeftTypes
 pub mod Demands
 pub mod Alike
 pub mod Judged
+pub mod Operands
+pub mod Arguments

@@ -13,3 +13,4 @@ pub mod Types
 pub mod Scene
 pub mod CallGraph
 pub mod Fits
+pub mod Judgings

@@ -1,9 +1,11 @@
 //! The static rules of names and types.
 #![tactic(auto)]
 
+mod calls;
 mod cases;
 mod choice;
 mod definitions;
+mod divisors;
 mod expressions;
 mod fits;
 mod found;
@@ -11,14 +13,15 @@ mod gathered;
 mod labels;
 mod lefts;
 mod limits;
+mod merges;
 mod name_set;
 mod names;
 mod pieces;
 mod queues;
 mod reads;
 mod scene;
-mod tagged;
 mod sets;
+mod tagged;
 mod tags;
 #[cfg(test)]
 mod tests;
