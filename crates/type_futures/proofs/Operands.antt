@@ -23,7 +23,7 @@ use Rattle.type_futures.proofs.Judged.{Clean, judged-clean, judged_by-clean}
 
 -- ---- what has types has no fault
 
-clean_const : (w : Judging) (p : ℕ) (q : Option _) (give : _ → Ty) → Clean (const_judged w p q give).faults (const_judged w p q give).types
+pub clean_const : (w : Judging) (p : ℕ) (q : Option _) (give : _ → Ty) → Clean (const_judged w p q give).faults (const_judged w p q give).types
 clean_const w p None give = tt
 clean_const w p (Some t) give = refl
 
@@ -66,7 +66,7 @@ pair_clean None ts fs gs c d = tt
 pair_clean (Some t) None fs gs c d = tt
 pair_clean (Some t) (Some ts) fs gs c d = ap (λ l. l ++ gs) c ∙ d
 
-operands-clean : (js : List (Judged (List Ty))) → AllClean js → Clean (operands js).faults (operands js).types
+pub operands-clean : (js : List (Judged (List Ty))) → AllClean js → Clean (operands js).faults (operands js).types
 operands-clean [] c = refl
 operands-clean (j ∷ js) c = pair_clean j.types (given (map types_given js)) j.faults (flat_map faults_found js) c.0 (operands-clean js c.1)
 

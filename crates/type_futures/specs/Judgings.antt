@@ -2,8 +2,8 @@
 use Rattle.std.specs.Prelude.{ℕ, Bool, true, false, ◌&&◌, ◌==◌, if◌then◌else◌, slice_get, List, [], ◌∷◌, ◌++◌, length, map, Option, None, Some}
 use Rattle.std.specs.List.{flat_map, list_all, list_any}
 use Rattle.std.specs.Option.{option_map_or}
-use Rattle.hept_ast.specs.Types.{Fit, Misfit, Untyped, has_tags, async_fit, call_fit, fits_if, same_tag, same_types, types_of}
-use Rattle.hept_ast.specs.Faults.{Duplicate, Fault, NotDefined, read_faults, Judged, Judging, NestedAsync, Recursive, nested, UnknownName, branch_fit, calls_lead, fault, judge_expr, judged, unknown_tag}
+use Rattle.hept_ast.specs.Types.{alike, Fit, Misfit, Untyped, has_tags, async_fit, call_fit, fits_if, same_tag, same_types, types_of}
+use Rattle.hept_ast.specs.Faults.{barred, node_named, type_of_variable, Duplicate, Fault, NotDefined, read_faults, Judged, Judging, NestedAsync, Recursive, nested, UnknownName, branch_fit, calls_lead, fault, judge_expr, judged, unknown_tag}
 use Rattle.hept_ast.specs.declared.tree.Decl.{Decl}
 use Rattle.hept_ast.specs.declared.tree.Expr.{Expr}
 use Rattle.hept_ast.specs.declared.tree.MergeBranch.{MergeBranch}
@@ -109,3 +109,15 @@ takes_first (d ∷ ds) (t ∷ ts) = is_one d.ty t && takes_first ds ts
 abbrev pub also_taken : Option Bool → Option Bool → Option Bool
 also_taken (Some a) (Some b) = Some (a && b)
 also_taken _ _ = None
+
+-- a call, by what its arguments give
+abbrev pub call_judged_by : Judging → ℕ → (is_async : Bool) → Name → List Expr → Judged (List Ty)
+call_judged_by w p is_async f args =
+    let g = node_named w.nodes f in
+    judged p (own_faults w p is_async g) (args_judged w args) (λ ts. barred w (call_if is_async g (takes (inputs_of g) ts)))
+
+-- a merge, by what its branches give
+abbrev pub merge_judged : Judging → ℕ → Name → List MergeBranch → Judged (List Ty)
+merge_judged w p x bs =
+    let on = type_of_variable w x in
+    judged p (merge_faults w p x on bs) (branches_judged w on bs) (λ ts. merge_with on (alike ts))

@@ -15,7 +15,7 @@ use crate::found::{Found, Kind};
 use crate::names::is_same;
 use crate::scene::Scene;
 use crate::types::{Types, declared_type, is_plain};
-use hept_ast::{Decl, Name, Node, Place};
+use hept_ast::{Decl, Expr, Name, Node, Place};
 
 /// A node that is called, and whether calls lead from it to the node with the call.
 #[derive(Clone, Copy)]
@@ -123,6 +123,14 @@ pub(crate) fn also_taken(
     let taken = taken?;
     let fits = is_input(inputs, index, argument?);
     Some(taken && fits)
+}
+
+/// Whether arguments are taken, by whether they are of the types of the first inputs.
+pub(crate) fn takes_all(taken: Option<bool>, inputs: &[Decl], args: &[Expr]) -> Option<bool>
+    ensures { result ≡ option_map (λ b. b && (length args.now == length inputs.now)) taken }
+{
+    let taken = taken?;
+    Some(taken && args.len() == inputs.len())
 }
 
 fn are_plain(outputs: &[Decl]) -> bool

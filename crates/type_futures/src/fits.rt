@@ -2,7 +2,7 @@
 ghost use Rattle.std.specs.Prelude.{◌≡◌, ◌∷◌, [], if◌then◌else◌};
 ghost use Rattle.std.specs.Option.{option_map};
 ghost use Rattle.hept_ast.specs.Limits.{earlier_of, earliest};
-ghost use Rattle.hept_ast.specs.Types.{alike, binary_fit, fits_if, get_fit, if_fit, plain_pair, unary_fit};
+ghost use Rattle.hept_ast.specs.Types.{Fits, alike, binary_fit, fits_if, get_fit, if_fit, plain_pair, unary_fit};
 ghost use Rattle.type_futures.specs.Fits.{all_fit, also_alike, alike_with, fit_of, given, is_one, mismatch, settled};
 ghost use Rattle.type_futures.specs.Types.{type_in, types_in};
 
@@ -171,6 +171,16 @@ pub(crate) fn get_fit(operand: Option<Types<'_>>) -> Option<Fit<'_>>
     match operand?.only() {
         Some(Type::Future(held)) => Some(Fit::Fits(Types::One(Type::Plain(held)))),
         _ => Some(Fit::Misfit),
+    }
+}
+
+/// Of what fits as it is.
+pub(crate) fn fits(types: Option<Types<'_>>) -> Option<Fit<'_>>
+    ensures { option_map fit_of result ≡ option_map Fits (option_map types_in types.entry) }
+{
+    match types {
+        Some(types) => Some(Fit::Fits(types)),
+        None => None,
     }
 }
 

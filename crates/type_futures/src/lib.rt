@@ -10,6 +10,7 @@ mod expressions;
 mod fits;
 mod found;
 mod gathered;
+mod judge;
 mod labels;
 mod lefts;
 mod limits;

@@ -1,13 +1,16 @@
 //! `when` and `merge`: their variables, tags and branches.
 ghost use Rattle.std.specs.Prelude.{◌≡◌, ◌++◌, ◌∷◌, [], map};
+ghost use Rattle.std.specs.List.{list_any};
 ghost use Rattle.std.specs.Option.{option_map};
 ghost use Rattle.hept_ast.specs.Faults.{Duplicate, UnknownName, branch_fit, fault, lack_faults, read_faults, unknown_tag, when_fit};
 ghost use Rattle.hept_ast.specs.Limits.{earlier_of, earliest};
+ghost use Rattle.hept_ast.specs.Types.{same_tag};
 ghost use Rattle.type_futures.specs.Fits.{fit_of, given, stands};
 ghost use Rattle.type_futures.specs.Judgings.{is_lacking_if, merge_faults, merge_with, tag_faults, when_faults};
 ghost use Rattle.type_futures.specs.Scene.{judging_of};
 ghost use Rattle.type_futures.specs.Types.{type_in, types_in};
 
+use crate::cases::is_same_tag;
 use crate::fits::{Fit, alike_one};
 use crate::found::{Found, Kind};
 use crate::reads::{note_read, note_unknown_tag};
@@ -136,4 +139,11 @@ pub(crate) fn branch_fit<'a>(
         }
         None => Some(Fit::Fits(value)),
     }
+}
+
+/// Whether a branch has a tag.
+pub(crate) fn has_tag(branches: &[MergeBranch], tag: &Tag) -> bool
+    ensures { result ≡ list_any (λ b. same_tag tag.now b.tag) branches.now }
+{
+    branches.iter().any(|branch| is_same_tag(tag, &branch.tag))
 }
