@@ -1,9 +1,8 @@
 -- Demands on the types of expressions, and the faults of parts.
-use Rattle.std.proofs.Common.{◌≡◌, ℕ, Bool, true, false, not, List, [], ◌∷◌, ◌++◌, refl, sym, ◌∙◌, ap, map}
+use Rattle.std.proofs.Common.{◌≡◌, ℕ, Bool, true, not, List, [], ◌∷◌, ◌++◌, refl, sym, ◌∙◌, ap, map}
 use Rattle.std.specs.Prelude.{Option, None, Some, ◌||◌, Result, Ok, Err, OnOk}
 use Rattle.std.specs.List.{flat_map, list_any}
-use Rattle.std.specs.Option.{option_map, option_map_or}
-use Rattle.std.proofs.lemmas.List.{map-append}
+use Rattle.std.specs.Option.{option_map_or}
 use Rattle.hept_ast.specs.Faults.{Fault, Judged, Judging, Mismatch, NotDefined, UnknownName, can_branch, decl_faults, demanded, fault, init_faults, fits_left, lack_faults, left_types, one_type, part_faults, second_definitions, tag_faults, tag_fits, unknown_tag}
 use Rattle.hept_ast.specs.Limits.{earlier_of, earliest}
 use Rattle.hept_ast.specs.Parts as part

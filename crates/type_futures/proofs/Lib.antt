@@ -10,6 +10,9 @@ pub mod Walks
 pub mod NameSets
 pub mod LeftTypes
 pub mod Demands
+pub mod NodeParts
+pub mod Checking
+pub mod Graphs
 pub mod Alike
 pub mod Judged
 pub mod Operands

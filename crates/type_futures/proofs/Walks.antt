@@ -91,7 +91,7 @@ state_faults-is w seen states q =
 -- ---- a node
 
 abbrev pub node_judging : Program → Node → Judging
-node_judging program node = record { types = program.types; nodes = program.nodes; node = node; seen = own_decls node; strong = false }
+node_judging program node = record { types = program.types; nodes = program.nodes; node = node; seen = []; strong = false }
 
 regrouped : (ds ls os is : List Decl) → ((ds ++ ls) ++ os) ++ is ≡ ds ++ ((ls ++ os) ++ is)
 regrouped ds ls os is = ap (λ t. t ++ is) (append_assoc ds ls os) ∙ append_assoc ds (ls ++ os) is

@@ -9,6 +9,9 @@ pub mod Walk
 pub mod Tags
 pub mod Lefts
 pub mod Demands
+pub mod NodeFaults
+pub mod Checked
+pub mod Graph
 pub mod Types
 pub mod Scene
 pub mod CallGraph

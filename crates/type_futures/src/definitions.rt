@@ -12,7 +12,7 @@ use crate::found::{Found, Kind};
 use crate::names::is_same;
 use crate::sets::{is_declared_in, is_listed, push_sets};
 use crate::typing::note_decls;
-use hept_ast::{Decl, Equation, Memory, Name, Place, TypeDec};
+use hept_ast::{Decl, Equation, Memory, Name, Node, Place, TypeDec};
 use std::alloc::Global;
 
 fn note_if_undefined(found: &mut Found, decl: &Decl, sets: &[&Name])
@@ -114,6 +114,26 @@ pub(crate) fn note_block(
     note_undefined(found, decls, sets.as_slice());
     note_second_definitions(alloc, found, body)?;
     Ok(())
+}
+
+/// The same of a node's own block, which declares the outputs too.
+pub(crate) fn note_node_block(
+    alloc: Global,
+    found: &mut Found,
+    types: &[TypeDec],
+    node: &Node,
+) -> Result<(), Memory>
+    ensures { OnOk result (found.new ≡ earlier_of found.old (earliest (block_faults types.now (node.now.outputs ++ node.now.block.locals) node.now.block.body))) }
+{
+    let outputs = node.outputs.as_slice();
+    let locals = node.block.locals.as_slice();
+    let body = node.block.body.as_slice();
+    note_decls(found, types, outputs);
+    note_decls(found, types, locals);
+    let sets = all_sets(alloc, body)?;
+    note_undefined(found, outputs, sets.as_slice());
+    note_undefined(found, locals, sets.as_slice());
+    note_second_definitions(alloc, found, body)
 }
 
 /// The declaration of a name, among those that are seen.

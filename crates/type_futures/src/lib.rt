@@ -3,6 +3,7 @@
 
 mod calls;
 mod cases;
+mod check;
 mod choice;
 mod definitions;
 mod divisors;
@@ -10,6 +11,7 @@ mod expressions;
 mod fits;
 mod found;
 mod gathered;
+mod graph;
 mod judge;
 mod labels;
 mod lefts;
@@ -17,6 +19,8 @@ mod limits;
 mod merges;
 mod name_set;
 mod names;
+mod nodes;
+mod parts;
 mod pieces;
 mod queues;
 mod reads;
@@ -29,5 +33,7 @@ mod tests;
 mod types;
 mod typing;
 mod variables;
+mod walk;
 
+pub use check::{TypeFault, check_types};
 pub use choice::{TopFault, choose};
