@@ -1,11 +1,11 @@
 -- A set of names after an insertion.
-use Rattle.std.proofs.Common.{◌≡◌, Bool, true, false, ◌||◌, List, [], ◌∷◌, ◌++◌, refl, sym, ◌∙◌, ap, map, if◌then◌else◌}
+use Rattle.std.proofs.Common.{◌≡◌, ℕ, suc, ◌+◌, ◌<◌, length, get_or, take, arith, Bool, true, false, ◌||◌, List, [], ◌∷◌, ◌++◌, refl, sym, ◌∙◌, ap, map, if◌then◌else◌}
 use Rattle.std.specs.List.{list_any}
 use Rattle.std.proofs.lemmas.List.{map-append}
 use Rattle.std.proofs.lemmas.List.Folds.{list_any-append}
 use Rattle.std.proofs.lemmas.Slice.Eq.{bytes_eq-Decides}
 use Rattle.hept_ast.specs.Texts.{Name, is_in, same}
-use Rattle.type_futures.proofs.Noting.{any_mapped}
+use Rattle.type_futures.proofs.Noting.{any_mapped, any_take}
 
 or_no : (a : Bool) → a || false ≡ a
 or_no true = refl
@@ -31,3 +31,18 @@ pub inserted : {K : Type 0} (view : K → Name) (ks news : List K) (k : K) (x : 
     → is_in x (map view news) ≡ is_in x (map view ks) || same x (view k)
 inserted view ks news k x e =
     ap (λ t. is_in x (map view t)) e ∙ tested view ks k x (list_any (λ q. same (view k) (view q)) ks) (any_mapped (same (view k)) view ks)
+
+or_assoc : (a b c : Bool) → (a || b) || c ≡ a || (b || c)
+or_assoc true b c = refl
+or_assoc false b c = refl
+
+-- one more name of a list
+pub more_met : {K : Type 0} (view : K → Name) (ks : List K) (i : ℕ) (d k : K) (x : Name) (first met now : Bool) → i < length ks → k ≡ get_or ks i d
+    → met ≡ first || is_in x (map view (take i ks)) → now ≡ met || same x (view k) → now ≡ first || is_in x (map view (take (i + 1) ks))
+more_met {K = K} view ks i d k x first met now below g h n =
+    n ∙ (ap (λ b. b || same x (view k)) h
+    ∙ (or_assoc first (is_in x (map view (take i ks))) (same x (view k))
+    ∙ ap (λ b. first || b)
+    (ap (λ b. b || same x (view k)) (any_mapped (same x) view (take i ks))
+    ∙ (ap (λ (t : K). list_any (λ q. same x (view q)) (take i ks) || same x (view t)) g
+    ∙ (sym (any_take (λ q. same x (view q)) ks i d below) ∙ (ap (λ j. list_any (λ q. same x (view q)) (take j ks)) (let s : suc i ≡ i + 1 = omega arith in s) ∙ sym (any_mapped (same x) view (take (i + 1) ks))))))))

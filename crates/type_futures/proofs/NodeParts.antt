@@ -6,7 +6,7 @@ use Rattle.hept_ast.specs.Faults.{Fault, decl_faults, node_faults, second_defini
 use Rattle.hept_ast.specs.InnerParts.{decl_label}
 use Rattle.hept_ast.specs.Limits.{earlier_of, earliest}
 use Rattle.hept_ast.specs.Parts.{Block, equation_case, sets_of, variables}
-use Rattle.hept_ast.specs.Texts.{Name, same}
+use Rattle.hept_ast.specs.Texts.{Name, same, is_in}
 use Rattle.hept_ast.specs.declared.name.Memory.{Memory}
 use Rattle.hept_ast.specs.declared.tree.Decl.{Decl}
 use Rattle.hept_ast.specs.declared.tree.Equation.{Equation}
@@ -16,6 +16,7 @@ use Rattle.type_futures.specs.NodeFaults.{all_parts_faults, kept_output, program
 use Rattle.type_futures.specs.Typing.{decl_faults_by}
 use Rattle.type_futures.specs.Walk.{around_judging, equation_faults, faults_at, judging_at, own_decls}
 use Rattle.type_futures.specs.declared.scene.NodeScene.{NodeScene}
+use Rattle.type_futures.proofs.Again.{undefined_same}
 use Rattle.type_futures.proofs.Demands.{also_noted, block_is, decls_are}
 use Rattle.type_futures.proofs.Noting.{noted_both}
 use Rattle.type_futures.proofs.Walks.{all_part_faults}
@@ -41,12 +42,12 @@ regrouped types os ls body =
     ∙ (ap (λ t. t ++ (flat_map u os ++ flat_map u ls) ++ s) (sym (flat_append (decl_faults_by types) os ls))
     ∙ ap (λ t. flat_map (decl_faults_by types) (os ++ ls) ++ t ++ s) (sym (flat_append u os ls)))
 
-pub node_block_noted : (types : List TypeDec) (os ls : List Decl) (body : List Equation) (sets more : List Name) (first a b c d q : Option Fault) (r : Result (Unit {0}) Memory)
-    → sets ≡ flat_map sets_of body → more ≡ flat_map sets_of body
+pub node_block_noted : (types : List TypeDec) (os ls : List Decl) (body : List Equation) (met : List Name) (first a b c d q : Option Fault) (r : Result (Unit {0}) Memory)
+    → ((x : Name) → is_in x met ≡ is_in x (flat_map sets_of body))
     → a ≡ earlier_of first (earliest (flat_map (decl_faults_by types) os)) → b ≡ earlier_of a (earliest (flat_map (decl_faults_by types) ls))
-    → c ≡ earlier_of b (earliest (flat_map (undefined_fault sets) os)) → d ≡ earlier_of c (earliest (flat_map (undefined_fault more) ls))
+    → c ≡ earlier_of b (earliest (flat_map (undefined_fault met) os)) → d ≡ earlier_of c (earliest (flat_map (undefined_fault met) ls))
     → OnOk r (q ≡ earlier_of d (earliest (second_definitions [] (map equation_case body)))) → OnOk r (q ≡ earlier_of first (earliest (block_faults types (os ++ ls) body)))
-node_block_noted types os ls body sets more first a b c d q r e g ha hb hc hd h =
+node_block_noted types os ls body met first a b c d q r e ha hb hc hd h =
     let ds = flat_map (decl_faults_by types) os in
     let es = flat_map (decl_faults_by types) ls in
     let us = flat_map (undefined_fault (flat_map sets_of body)) os in
@@ -54,8 +55,8 @@ node_block_noted types os ls body sets more first a b c d q r e g ha hb hc hd h 
     renamed (ds ++ es ++ us ++ vs ++ second_definitions [] (map equation_case body)) (block_faults types (os ++ ls) body) first q r (regrouped types os ls body)
     (also_noted (ds ++ es ++ us ++ vs) (second_definitions [] (map equation_case body)) first d q r
     (noted_both (ds ++ es ++ us) vs first c d
-    (noted_both (ds ++ es) us first b c (noted_both ds es first a b ha hb) (hc ∙ ap (λ t. earlier_of b (earliest (flat_map (undefined_fault t) os))) e))
-    (hd ∙ ap (λ t. earlier_of c (earliest (flat_map (undefined_fault t) ls))) g)) h)
+    (noted_both (ds ++ es) us first b c (noted_both ds es first a b ha hb) (hc ∙ ap (λ t. earlier_of b (earliest t)) (undefined_same met (flat_map sets_of body) os e)))
+    (hd ∙ ap (λ t. earlier_of c (earliest t)) (undefined_same met (flat_map sets_of body) ls e))) h)
 
 pub block_renamed : (types : List TypeDec) (os ps ls ms : List Decl) (body other : List Equation) (first q : Option Fault) (r : Result (Unit {0}) Memory) → os ≡ ps → ls ≡ ms → body ≡ other
     → OnOk r (q ≡ earlier_of first (earliest (block_faults types (os ++ ls) body))) → OnOk r (q ≡ earlier_of first (earliest (block_faults types (ps ++ ms) other)))

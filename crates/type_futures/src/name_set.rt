@@ -25,3 +25,18 @@ pub(crate) fn insert_name<'a>(names: &mut NameSet<'a>, name: &'a Name) -> Result
         Err(_) => Err(Memory),
     }
 }
+
+pub(crate) fn has_name(names: &NameSet<'_>, name: &Name) -> bool
+    ensures { result ≡ is_in name.now (map (λ r. r.now) names.now.keys) }
+{
+    names.contains(name.bytes())
+}
+
+pub(crate) fn insert_names<'a>(names: &mut NameSet<'a>, more: &[&'a Name]) -> Result<(), Memory>
+    ensures { OnOk result ((x : Name) → is_in x (map (λ r. r.now) names.new.keys) ≡ (is_in x (map (λ r. r.now) names.old.keys) || is_in x (map (λ r. r.now) more.now))) }
+{
+    for name in more {
+        insert_name(names, name)?;
+    }
+    Ok(())
+}
