@@ -10,11 +10,11 @@ use Rattle.hept_io.specs.Lines.{to_come}
 use Rattle.trace_io.specs.OutputText.{row_line, output_text}
 use Rattle.step_objects.specs.declared.shape.Values.{Values}
 use Rattle.hepasync_top.specs.Outputs.{input_shape, output_shape}
-use Rattle.hepasync_top.specs.Turns.{LosesRows, AtMost, NextIsBad, HasNext, EndsAfter, ended, bad_row, limit_reached, read_fault, write_fault}
-use Rattle.hepasync_top.specs.Machine.{HasDone, Turns, TurnsEnd, EndsHere}
+use Rattle.hepasync_top.specs.Turns.{LosesRows, AtMost, NextIsBad, HasNext, EndsAfter, RunEnds}
+use Rattle.hepasync_top.specs.Machine.{HasDone, Turns, EndsHere}
 use Rattle.hepasync_top.specs.declared.machine.Machine.{Machine}
-use Rattle.hepasync_top.specs.declared.end.End.{End}
-use Rattle.hepasync_top.specs.declared.end.End.TheVariants.{Ended, Refused, Usage, File, BadRow, Limit, ReadFault, WriteFault, Memory}
+use Rattle.run_messages.specs.declared.end.End.{End}
+use Rattle.run_messages.specs.declared.end.End.TheVariants.{Ended, Refused, Usage, File, BadRow, Limit, ReadFault, WriteFault, Memory}
 use Rattle.hepasync_top.proofs.NextOutputs.{erased_outputs}
 use Rattle.trace_io.proofs.SinkBytes.{appends_both, appends_kept, appends_none, keeps_same}
 use Rattle.hepasync_top.proofs.LineSteps.{loses_both, loses_none, left_of_coming}
@@ -35,7 +35,7 @@ text_of_more : (shape : List Values) (outs : List (List ℕ)) (out : List ℕ) �
 text_of_more shape outs out = flat_map-append (row_line shape) outs (out ∷ []) ∙ ap (λ text. output_text shape outs ++ text) (append-nil (row_line shape out))
 
 pub one_counted : (p : Program) (n : ℕ) (coming held : Option (List ℕ)) (m new : Machine) (rest now left later : Option (List ℕ)) (u : Unit {0}) →
-    (s : SoFar p n coming held m rest now) → Turns p s.rows s.outs rest now (Ok u) new left later → SoFar p (n + 1) coming held new (to_come new.reader left) later
+    (s : SoFar p n coming held m rest now) → Turns p (n + 1) s.rows s.outs rest now (Ok u) new left later → SoFar p (n + 1) coming held new (to_come new.reader left) later
 one_counted p n coming held m new rest now left later u s (row, out, done, read, written) = record {
   rows = s.rows ++ row ∷ [];
   outs = s.outs ++ out ∷ [];
@@ -58,11 +58,12 @@ ends law p n coming held m rest now left later Why s k within why = record {
 
 -- a turn that doesn't count ends the run
 pub stops : ErasedKeepsOutputs → (p : Program) (limit n : ℕ) (coming held : Option (List ℕ)) (m new : Machine) (rest now left later : Option (List ℕ)) (end : End) →
-    (s : SoFar p n coming held m rest now) → Turns p s.rows s.outs rest now (Err end) new left later → TurnsEnd p limit coming held end left later
-stops law p limit n coming held m new rest now left later Ended s h = ended (ends law p n coming held m rest now left later (λ n rest. IsAtEnd rest) s h.2 h.1 h.0)
-stops law p limit n coming held m new rest now left later BadRow s h = bad_row (ends law p n coming held m rest now left later (λ n rest. NextIsBad (input_shape p) rest) s h.2 h.1 h.0)
-stops law p limit n coming held m new rest now left later ReadFault s h = read_fault (ends law p n coming held m rest now left later (λ n rest. ⊤) s h.1 h.0 tt)
-stops law p limit n coming held m new rest now left later WriteFault s (row, out, outputs, read, part) = write_fault (record {
+    (s : SoFar p n coming held m rest now) → Turns p (n + 1) s.rows s.outs rest now (Err end) new left later → RunEnds p limit coming held left later end
+stops law p limit n coming held m new rest now left later Ended s h = (ends law p n coming held m rest now left later (λ n rest. IsAtEnd rest) s h.2 h.1 h.0)
+stops law p limit n coming held m new rest now left later (BadRow line fault) s h =
+    ends law p n coming held m rest now left later (λ k rest. (line ≡ k + 1) × NextIsBad (input_shape p) fault rest) s h.3 h.2 (h.0 ∙ ap (λ k. k + 1) (sym s.count), h.1)
+stops law p limit n coming held m new rest now left later ReadFault s h = (ends law p n coming held m rest now left later (λ n rest. ⊤) s h.1 h.0 tt)
+stops law p limit n coming held m new rest now left later WriteFault s (row, out, outputs, read, part) = record {
   rows = s.rows;
   outs = s.outs;
   row = row;
@@ -74,22 +75,22 @@ stops law p limit n coming held m new rest now left later WriteFault s (row, out
   part = part.1;
   written = appends_both held now later (output_text (output_shape p) s.outs) (take part.0 (row_line (output_shape p) out)) s.written part.2;
   within = left_of_coming new.reader.pending left;
-})
-stops law p limit n coming held m new rest now left later Refused s h = absurd h
+}
+stops law p limit n coming held m new rest now left later (Refused refusal) s h = absurd h
 stops law p limit n coming held m new rest now left later Usage s h = absurd h
-stops law p limit n coming held m new rest now left later File s h = absurd h
-stops law p limit n coming held m new rest now left later Limit s h = absurd h
+stops law p limit n coming held m new rest now left later (File fault) s h = absurd h
+stops law p limit n coming held m new rest now left later (Limit rows) s h = absurd h
 stops law p limit n coming held m new rest now left later Memory s h = absurd h
 
 -- the limit's rows counted
 pub at_limit : ErasedKeepsOutputs → (p : Program) (limit n : ℕ) (coming held : Option (List ℕ)) (m : Machine) (rest now left : Option (List ℕ)) (end : End) →
-    (s : SoFar p n coming held m rest now) → n ≡ limit → EndsHere rest end left → TurnsEnd p limit coming held end left now
-at_limit law p limit n coming held m rest now left Ended s e h = ended (ends law p n coming held m rest now left now (λ n rest. IsAtEnd rest) s (keeps_same now) h.1 h.0)
-at_limit law p limit n coming held m rest now left Limit s e h = limit_reached (ends law p n coming held m rest now left now (λ k rest. (k ≡ limit) × HasNext rest) s (keeps_same now) h.1 (s.count ∙ e, h.0))
-at_limit law p limit n coming held m rest now left ReadFault s e h = read_fault (ends law p n coming held m rest now left now (λ n rest. ⊤) s (keeps_same now) h tt)
-at_limit law p limit n coming held m rest now left BadRow s e h = absurd h
+    (s : SoFar p n coming held m rest now) → n ≡ limit → EndsHere limit rest end left → RunEnds p limit coming held left now end
+at_limit law p limit n coming held m rest now left Ended s e h = (ends law p n coming held m rest now left now (λ n rest. IsAtEnd rest) s (keeps_same now) h.1 h.0)
+at_limit law p limit n coming held m rest now left (Limit rows) s e h = (h.0, ends law p n coming held m rest now left now (λ k rest. (k ≡ limit) × HasNext rest) s (keeps_same now) h.2 (s.count ∙ e, h.1))
+at_limit law p limit n coming held m rest now left ReadFault s e h = (ends law p n coming held m rest now left now (λ n rest. ⊤) s (keeps_same now) h tt)
+at_limit law p limit n coming held m rest now left (BadRow line fault) s e h = absurd h
 at_limit law p limit n coming held m rest now left WriteFault s e h = absurd h
-at_limit law p limit n coming held m rest now left Refused s e h = absurd h
+at_limit law p limit n coming held m rest now left (Refused refusal) s e h = absurd h
 at_limit law p limit n coming held m rest now left Usage s e h = absurd h
-at_limit law p limit n coming held m rest now left File s e h = absurd h
+at_limit law p limit n coming held m rest now left (File fault) s e h = absurd h
 at_limit law p limit n coming held m rest now left Memory s e h = absurd h

@@ -5,7 +5,8 @@ pub mod Known
 pub mod Body
 pub mod AtInstant
 pub mod AtStart
-pub mod RowByRow
+pub mod Refusing
+mod RowByRow
 pub mod Cells
 pub mod Ends
 pub mod LineSteps

@@ -1,7 +1,8 @@
 -- What a call of a line reader leaves to come, and what is read from it.
-use Rattle.std.proofs.Common.{◌≡◌, ℕ, ◌+◌, ◌≤◌, inl, ⊎_elim, List, [], ◌∷◌, ◌++◌, length, take, drop, map, Option, Some, None, Result, Ok, Err, sym, refl, ap, ◌∙◌, subst, arith, length-append, append_assoc}
+use Rattle.std.proofs.Common.{◌≡◌, ℕ, ◌+◌, ◌≤◌, ⊎_elim, List, [], ◌∷◌, ◌++◌, length, take, drop, map, Option, Some, None, Result, Ok, Err, sym, refl, ap, ◌∙◌, subst, arith, length-append, append_assoc}
 use Rattle.std.specs.Io.KnownBytes.{prepend_known}
-use Rattle.hept_io.specs.Lines.{Reading, to_come, lines_of, IsFirstLine, LosesLine, GivesLine, Moves}
+use Rattle.std.specs.Prelude.{IfSome}
+use Rattle.hept_io.specs.Lines.{Reading, to_come, lines_of, IsFirstLine, IsLine, LosesLine, GivesLine, Moves}
 use Rattle.hept_io.specs.declared.lines.LineFault.{LineFault}
 use Rattle.std.specs.Borrow.{Bor}
 use Rattle.std.proofs.lemmas.List.{map-append}
@@ -10,7 +11,8 @@ use Rattle.step_objects.specs.declared.shape.Values.{Values}
 use Rattle.step_cells.specs.declared.cell.Cell.{Cell}
 use Rattle.step_cells.specs.Cells.{cells_of, row_of}
 use Rattle.trace_io.specs.RowText.{IsRow, row_text}
-use Rattle.hepasync_top.specs.Turns.{TakesRows, LosesRows, AtMost, NextIsBad}
+use Rattle.run_messages.specs.declared.end.BadRow.TheVariants.{Fault}
+use Rattle.hepasync_top.specs.Turns.{AllShort, TakesRows, LosesRows, AtMost, NextIsBad}
 use Rattle.trace_io.specs.declared.row_text.RowFault.{RowFault}
 
 shorter_rest : (bytes line rest : List ℕ) → IsFirstLine bytes line rest → length rest + 1 ≤ length bytes
@@ -19,23 +21,24 @@ shorter_rest bytes line rest h = ⊎_elim
     (λ e. omega (arith, ap length e.0, ap length e.1, e.2))
     h.cut
 
-takes_one : (inputs : List Values) (bytes line rest row : List ℕ) → IsFirstLine bytes line rest → row_text inputs line ≡ Ok row → TakesRows inputs bytes (row ∷ []) rest
-takes_one inputs bytes line rest row h r = record {
+takes_one : (inputs : List Values) (bytes line rest row : List ℕ) → IsFirstLine bytes line rest → length line ≤ 65535 → row_text inputs line ≡ Ok row → TakesRows inputs bytes (row ∷ []) rest
+takes_one inputs bytes line rest row h s r = record {
   lines = line ∷ [];
   cut = h.lines;
   read = ap (λ read. read ∷ []) r;
+  short = (s, tt);
   shorter = shorter_rest bytes line rest h;
 }
 
-loses_one : (inputs : List Values) (coming rest : Option (List ℕ)) (line row : List ℕ) → LosesLine coming line rest → row_text inputs line ≡ Ok row → LosesRows inputs coming (row ∷ []) rest
-loses_one inputs None rest line row h r = tt
-loses_one inputs (Some bytes) None line row h r = absurd h
-loses_one inputs (Some bytes) (Some rest) line row h r = takes_one inputs bytes line rest row h r
+loses_one : (inputs : List Values) (coming rest : Option (List ℕ)) (line row : List ℕ) → LosesLine coming line rest → length line ≤ 65535 → row_text inputs line ≡ Ok row → LosesRows inputs coming (row ∷ []) rest
+loses_one inputs None rest line row h s r = tt
+loses_one inputs (Some bytes) None line row h s r = absurd h
+loses_one inputs (Some bytes) (Some rest) line row h s r = takes_one inputs bytes line rest row h s r
 
-pub next_is_bad : (inputs : List Values) (coming rest : Option (List ℕ)) (line : List ℕ) (e : RowFault) → LosesLine coming line rest → row_text inputs line ≡ Err e → NextIsBad inputs coming
-next_is_bad inputs None rest line e h r = tt
-next_is_bad inputs (Some bytes) None line e h r = absurd h
-next_is_bad inputs (Some bytes) (Some rest) line e h r = record { line = line; others = lines_of rest; lines = h.lines; fault = inl (e, r) }
+pub next_is_bad : (inputs : List Values) (coming rest : Option (List ℕ)) (line : List ℕ) (e : RowFault) → LosesLine coming line rest → length line ≤ 65535 → row_text inputs line ≡ Err e → NextIsBad inputs (Fault e) coming
+next_is_bad inputs None rest line e h s r = tt
+next_is_bad inputs (Some bytes) None line e h s r = absurd h
+next_is_bad inputs (Some bytes) (Some rest) line e h s r = record { line = line; others = lines_of rest; lines = h.lines; wrong = (s, r) }
 
 pub left_of_line : (coming : Option (List ℕ)) (pending : List ℕ) (left : Option (List ℕ)) (line : List ℕ) → LosesLine coming line (prepend_known pending left) → AtMost coming left
 left_of_line None pending left line h = tt
@@ -46,12 +49,20 @@ pub given : (old : Reading) (left : Option (List ℕ)) (answer : Result (Option 
     answer ≡ Ok (Some line) → Moves old left answer new rest → GivesLine old left line.now new rest
 given old left answer line new rest e h = subst (λ a. Moves old left a new rest) e h
 
+pub short_line : (o : Option (Bor (List ℕ))) (line : Bor (List ℕ)) → o ≡ Some line → IfSome o (λ l. IsLine l.now) → length line.now ≤ 65535
+short_line o line e h = let l : IsLine line.now = subst (λ (p : Option (Bor (List ℕ))). IfSome p (λ l. IsLine l.now)) e h in omega (arith, l.1)
+
 -- ---- several turns
+
+all_short : (lines more : List (List ℕ)) → AllShort lines → AllShort more → AllShort (lines ++ more)
+all_short [] more h k = k
+all_short (line ∷ lines) more h k = (h.0, all_short lines more h.1 k)
 
 loses_lines : (inputs : List Values) (a b c : List ℕ) (rows more : List (List ℕ)) → TakesRows inputs a rows b → TakesRows inputs b more c → TakesRows inputs a (rows ++ more) c
 loses_lines inputs a b c rows more h k = record {
   lines = h.lines ++ k.lines;
   cut = h.cut ∙ ap (λ ls. h.lines ++ ls) k.cut ∙ sym (append_assoc h.lines k.lines (lines_of c));
+  short = all_short h.lines k.lines h.short k.short;
   read = map-append (row_text inputs) h.lines k.lines ∙ ap (λ read. read ++ map (row_text inputs) k.lines) h.read ∙ ap (λ read. map Ok rows ++ read) k.read ∙ sym (map-append Ok rows more);
   shorter = omega (arith, h.shorter, k.shorter, length-append rows more);
 }
@@ -64,7 +75,7 @@ loses_both inputs (Some a) (Some b) (Some c) rows more h k = loses_lines inputs 
 
 pub loses_none : (inputs : List Values) (a : Option (List ℕ)) → LosesRows inputs a [] a
 loses_none inputs None = tt
-loses_none inputs (Some a) = record { lines = []; cut = refl; read = refl; shorter = omega arith }
+loses_none inputs (Some a) = record { lines = []; cut = refl; read = refl; short = tt; shorter = omega arith }
 
 pub left_of_coming : (pending : List ℕ) (left : Option (List ℕ)) → AtMost (prepend_known pending left) left
 left_of_coming pending None = tt
@@ -84,5 +95,5 @@ pub row_of_cells : (row : List ℕ) → row_of (cells_of row) ≡ row
 row_of_cells [] = refl
 row_of_cells (v ∷ row) = ap (λ vs. v ∷ vs) (row_of_cells row)
 
-pub loses_read : (shape : List Values) (coming rest : Option (List ℕ)) (line : List ℕ) (cells : List Cell) → LosesLine coming line rest → IsRow shape line cells → LosesRows shape coming (row_of cells ∷ []) rest
-loses_read shape coming rest line cells h (row, read, is) = loses_one shape coming rest line (row_of cells) h (read ∙ ap Ok (sym (ap row_of is ∙ row_of_cells row)))
+pub loses_read : (shape : List Values) (coming rest : Option (List ℕ)) (line : List ℕ) (cells : List Cell) → LosesLine coming line rest → length line ≤ 65535 → IsRow shape line cells → LosesRows shape coming (row_of cells ∷ []) rest
+loses_read shape coming rest line cells h s (row, read, is) = loses_one shape coming rest line (row_of cells) h s (read ∙ ap Ok (sym (ap row_of is ∙ row_of_cells row)))

@@ -1,6 +1,6 @@
 pub mod Terms
 pub mod Stepping
-pub mod End
+pub mod Stops
 pub mod Machine
 pub mod Outputs
 pub mod Run

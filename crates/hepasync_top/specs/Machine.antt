@@ -12,11 +12,10 @@ use Rattle.step_cells.specs.Cells.{row_of}
 use Rattle.hepasync_top.specs.Outputs.{input_shape, output_shape}
 use Rattle.hepasync_top.specs.Run.{IsProgramFile}
 use Rattle.hepasync_top.specs.Stepping.{GivesRows, IsReady, Stands}
-use Rattle.hepasync_top.specs.Turns.{LosesRows, AtMost, NextIsBad, HasNext, RunEnds}
-use Rattle.hepasync_top.specs.End.{status_of}
+use Rattle.hepasync_top.specs.Turns.{LosesRows, AtMost, NextIsBad, HasNext}
 use Rattle.hepasync_top.specs.declared.machine.Machine.{Machine}
-use Rattle.hepasync_top.specs.declared.end.End.{End}
-use Rattle.hepasync_top.specs.declared.end.End.TheVariants.{Ended, BadRow, Limit, ReadFault, WriteFault}
+use Rattle.run_messages.specs.declared.end.End.{End}
+use Rattle.run_messages.specs.declared.end.End.TheVariants.{Ended, BadRow, Limit, ReadFault, WriteFault}
 
 -- it may do a turn
 pub record CanTurn (m : Machine) : Type 0 where
@@ -37,35 +36,31 @@ pub record HasDone (p : Program) (m : Machine) (rows outs : List (List ℕ)) : T
   pub input_shape : m.inputs ≡ input_shape p
   pub output_shape : m.outputs ≡ output_shape p
 
--- what a read of the next line into a row comes to
-abbrev pub ReadsRow : (inputs : List Values) → Reading → (left : Option (List ℕ)) → Result (Unit {0}) End → Reading → (rest : Option (List ℕ)) → (row : List Cell) → Type 0
-ReadsRow inputs old left (Ok u) new rest row = (new.is_spent ≡ false) × LosesRows inputs (to_come old left) (row_of row ∷ []) (to_come new rest)
-ReadsRow inputs old left (Err Ended) new rest row = IsAtEnd (to_come old left) × AtMost (to_come old left) rest
-ReadsRow inputs old left (Err BadRow) new rest row = NextIsBad inputs (to_come old left) × AtMost (to_come old left) rest
-ReadsRow inputs old left (Err ReadFault) new rest row = AtMost (to_come old left) rest
-ReadsRow inputs old left (Err other) new rest row = ⊥
+-- what a read of the next line, which has this number, into a row comes to
+abbrev pub ReadsRow : (inputs : List Values) → (number : ℕ) → Reading → (left : Option (List ℕ)) → Result (Unit {0}) End → Reading → (rest : Option (List ℕ)) → (row : List Cell) → Type 0
+ReadsRow inputs number old left (Ok u) new rest row = (new.is_spent ≡ false) × LosesRows inputs (to_come old left) (row_of row ∷ []) (to_come new rest)
+ReadsRow inputs number old left (Err Ended) new rest row = IsAtEnd (to_come old left) × AtMost (to_come old left) rest
+ReadsRow inputs number old left (Err (BadRow line fault)) new rest row = (line ≡ number) × NextIsBad inputs fault (to_come old left) × AtMost (to_come old left) rest
+ReadsRow inputs number old left (Err ReadFault) new rest row = AtMost (to_come old left) rest
+ReadsRow inputs number old left (Err other) new rest row = ⊥
 
--- what the request for one more line comes to
-abbrev pub EndsHere : (coming : Option (List ℕ)) → End → (left : Option (List ℕ)) → Type 0
-EndsHere coming Ended left = IsAtEnd coming × AtMost coming left
-EndsHere coming Limit left = HasNext coming × AtMost coming left
-EndsHere coming ReadFault left = AtMost coming left
-EndsHere coming other left = ⊥
+-- what the request for one more line comes to, where as many rows counted as may
+abbrev pub EndsHere : (limit : ℕ) → (coming : Option (List ℕ)) → End → (left : Option (List ℕ)) → Type 0
+EndsHere limit coming Ended left = IsAtEnd coming × AtMost coming left
+EndsHere limit coming (Limit rows) left = (rows ≡ limit) × HasNext coming × AtMost coming left
+EndsHere limit coming ReadFault left = AtMost coming left
+EndsHere limit coming other left = ⊥
 
--- what a turn comes to, after some rows
-abbrev pub Turns : Program → (rows outs : List (List ℕ)) → (coming held : Option (List ℕ)) → Result (Unit {0}) End → Machine → (left now : Option (List ℕ)) → Type 0
-Turns p rows outs coming held (Ok u) m left now = (row out : List ℕ) × HasDone p m (rows ++ row ∷ []) (outs ++ out ∷ [])
+-- what a turn for the line of this number comes to, after some rows
+abbrev pub Turns : Program → (number : ℕ) → (rows outs : List (List ℕ)) → (coming held : Option (List ℕ)) → Result (Unit {0}) End → Machine → (left now : Option (List ℕ)) → Type 0
+Turns p number rows outs coming held (Ok u) m left now = (row out : List ℕ) × HasDone p m (rows ++ row ∷ []) (outs ++ out ∷ [])
     × LosesRows (input_shape p) coming (row ∷ []) (to_come m.reader left) × Appends held now (row_line (output_shape p) out)
-Turns p rows outs coming held (Err Ended) m left now = IsAtEnd coming × AtMost coming left × Keeps held now
-Turns p rows outs coming held (Err BadRow) m left now = NextIsBad (input_shape p) coming × AtMost coming left × Keeps held now
-Turns p rows outs coming held (Err ReadFault) m left now = AtMost coming left × Keeps held now
-Turns p rows outs coming held (Err WriteFault) m left now = (row out : List ℕ) × GivesRows p (rows ++ row ∷ []) (outs ++ out ∷ [])
+Turns p number rows outs coming held (Err Ended) m left now = IsAtEnd coming × AtMost coming left × Keeps held now
+Turns p number rows outs coming held (Err (BadRow line fault)) m left now = (line ≡ number) × NextIsBad (input_shape p) fault coming × AtMost coming left × Keeps held now
+Turns p number rows outs coming held (Err ReadFault) m left now = AtMost coming left × Keeps held now
+Turns p number rows outs coming held (Err WriteFault) m left now = (row out : List ℕ) × GivesRows p (rows ++ row ∷ []) (outs ++ out ∷ [])
     × LosesRows (input_shape p) coming (row ∷ []) (to_come m.reader left) × AppendsPart held now (row_line (output_shape p) out)
-Turns p rows outs coming held (Err other) m left now = ⊥
-
--- how the turns end, where at most `limit` rows may count
-abbrev pub TurnsEnd : Program → (limit : ℕ) → (coming held : Option (List ℕ)) → End → (left now : Option (List ℕ)) → Type 0
-TurnsEnd p limit coming held end left now = RunEnds p limit coming held left now (status_of end)
+Turns p number rows outs coming held (Err other) m left now = ⊥
 
 -- It has done nothing yet. Where the store tells its files, its program is the one that the words name.
 pub record IsFresh (files : Option Files) (words : List (List ℕ)) (m : Machine) : Type 0 where

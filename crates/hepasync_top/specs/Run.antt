@@ -2,15 +2,20 @@
 use Rattle.std.specs.Prelude.{◌≡◌, ℕ, List, [], ◌++◌, map, Option, Some, IfSome, IsSomeAnd, Ok, ◌⊎◌}
 use Rattle.hept_ast.specs.declared.tree.Program.{Program}
 use Rattle.hepasync_top.specs.Served.{IsServed}
-use Rattle.hept_io.specs.Outside.{Files, HasFile}
+use Rattle.std.specs.Io.KnownBytes.{Appends}
+use Rattle.hept_io.specs.Outside.{Files, HasFile, Rose}
+use Rattle.run_messages.specs.Ends.{status_of}
+use Rattle.run_messages.specs.Lines.{line_of}
 use Rattle.hept_io.specs.Lines.{lines_of}
 use Rattle.hepasync_top.specs.Words.{file_of}
-use Rattle.hepasync_top.specs.End.{IsNotRead}
+use Rattle.hepasync_top.specs.Stops.{StopsFor, FileIsRefused, IsUnforeseen}
+use Rattle.run_messages.specs.declared.end.End.{End}
+use Rattle.run_messages.specs.declared.end.End.TheVariants.{Refused}
+use Rattle.run_messages.specs.declared.end.Refusal.{Refusal}
 use Rattle.trace_io.specs.RowText.{row_text}
-use Rattle.trace_io.specs.OutputText.{output_text}
+use Rattle.trace_io.specs.OutputText.{output_text, AppendsPart}
 use Rattle.hepasync_top.specs.Outputs.{ErasedOutputs, input_shape, output_shape}
-use Rattle.ept_reader.specs.Spelling.{IsProgramText, IsRefusalOf}
-use Rattle.ept_reader.specs.declared.reader.ReadFault.{ReadFault}
+use Rattle.ept_reader.specs.Spelling.{IsProgramText}
 use Rattle.hepasync_top.specs.Turns.{RunEnds}
 
 -- The words name a file, and its bytes are the text of a program that is served.
@@ -39,34 +44,44 @@ WrittenWhereTold files words trace before after =
     IfSome files (λ files. IfSome trace (λ trace. IfSome before (λ before. IsSomeAnd after (λ after. Written files words trace before after))))
 
 -- A program runs over the trace, at most this many rows counting. Where the store tells its files, it is the one that the words name.
-pub record Runs (limit : ℕ) (files : Option Files) (words : List (List ℕ)) (trace held left now : Option (List ℕ)) (status : ℕ) : Type 0 where
+pub record Runs (limit : ℕ) (files : Option Files) (words : List (List ℕ)) (trace held left now : Option (List ℕ)) (end : End) : Type 0 where
   pub program : Program
   pub file : IfSome files (λ files. IsProgramFile files words program)
-  pub ends : RunEnds program limit trace held left now status
+  pub ends : RunEnds program limit trace held left now end
 
 -- The run ends before the trace is first read: nothing is read of it, and nothing written.
-pub record StopsBefore (trace held left now : Option (List ℕ)) (status : ℕ) : Type 0 where
-  pub before : ((status ≡ 1) ⊎ (status ≡ 2)) ⊎ ((status ≡ 3) ⊎ (status ≡ 8))
+pub record Stops (files : Option Files) (words : List (List ℕ)) (old new : ℕ) (trace held left now : Option (List ℕ)) (end : End) : Type 0 where
+  pub why : StopsFor end files words old new
   pub unread : left ≡ trace
   pub unwritten : now ≡ held
 
--- the words name a file, and it isn't read
-pub record FileIsNotRead (files : Option Files) (words : List (List ℕ)) (old new : ℕ) : Type 0 where
-  pub name : List ℕ
-  pub named : file_of words ≡ Some name
-  pub cause : IsNotRead files old new name
+-- how a run ends, and why; `old` and `new` count the faults of the store
+abbrev pub Ends : (limit : ℕ) → Option Files → (words : List (List ℕ)) → (old new : ℕ) → (trace held left now : Option (List ℕ)) → End → Type 0
+Ends limit files words old new trace held left now end =
+    Runs limit files words trace held left now end ⊎ Stops files words old new trace held left now end
 
--- The bytes are no text of a program, or of one that isn't served.
-abbrev pub IsRefusedText : List ℕ → Type 0
-IsRefusedText bytes = ((f : ReadFault) × IsRefusalOf bytes f) ⊎ ((p : Program) × IsProgramText bytes p × (IsServed p → ⊥))
+-- A file that is refused is refused so, unless memory runs out or the store fails.
+abbrev pub RefusesExactly : Option Files → (words : List (List ℕ)) → End → Type 0
+RefusesExactly files words end = IfSome files (λ files. (refusal : Refusal) → FileIsRefused refusal (Some files) words → (end ≡ Refused refusal) ⊎ IsUnforeseen end)
 
--- The words name a file, and its bytes were read and are refused.
-pub record FileIsRefused (files : Option Files) (words : List (List ℕ)) : Type 0 where
-  pub name : List ℕ
-  pub named : file_of words ≡ Some name
-  pub bytes : List ℕ
-  pub file : IfSome files (λ files. HasFile files name bytes)
-  pub refused : IsRefusedText bytes
+-- A program that is served runs, unless memory runs out or the store fails.
+abbrev pub RunsServed : (limit : ℕ) → Option Files → (words : List (List ℕ)) → (trace held left now : Option (List ℕ)) → End → Type 0
+RunsServed limit files words trace held left now end =
+    IfSome files (λ files. (p : Program) → IsProgramFile files words p → RunEnds p limit trace held left now end ⊎ IsUnforeseen end)
+
+-- A sink grew by the line of an end, or where its count of faults rose by a part of it.
+abbrev pub Says : End → (held now : Option (List ℕ)) → (old new : ℕ) → Type 0
+Says end held now old new = Appends held now (line_of end) ⊎ (AppendsPart held now (line_of end) × Rose old new)
+
+-- How a run ends with a status, and the line that says so. `files_old` and `err_old` count faults before the run, `files_new` and
+-- `err_new` after it.
+pub record ComesTo (limit : ℕ) (files : Option Files) (words : List (List ℕ)) (files_old files_new : ℕ) (trace held left now : Option (List ℕ)) (lines said : Option (List ℕ)) (err_old err_new : ℕ) (status : ℕ) : Type 0 where
+  pub end : End
+  pub status_is : status ≡ status_of end
+  pub ends : Ends limit files words files_old files_new trace held left now end
+  pub refuses : RefusesExactly files words end
+  pub serves : RunsServed limit files words trace held left now end
+  pub says : Says end lines said err_old err_new
 
 -- where the bytes of the trace were told, none is left
 abbrev pub HasNoneLeft : Option (List ℕ) → Option (List ℕ) → Type 0

@@ -1,5 +1,5 @@
 -- What the turns of a run do to the bytes that are to come and to those that are written.
-use Rattle.std.specs.Prelude.{◌≡◌, ◌≢◌, ℕ, ◌+◌, ◌<◌, ◌≤◌, List, [], ◌∷◌, ◌++◌, length, map, take, Option, Some, None, Ok, Err, ⊤, ◌⊎◌}
+use Rattle.std.specs.Prelude.{◌≡◌, ◌≢◌, ℕ, ◌+◌, ◌<◌, ◌≤◌, List, [], ◌∷◌, ◌++◌, length, map, take, Option, Some, None, Ok, Err, ⊤}
 use Rattle.std.specs.Io.KnownBytes.{Appends, IsAtEnd}
 use Rattle.hept_ast.specs.declared.tree.Program.{Program}
 use Rattle.step_objects.specs.declared.shape.Values.{Values}
@@ -7,13 +7,22 @@ use Rattle.hept_io.specs.Lines.{lines_of}
 use Rattle.trace_io.specs.RowText.{row_text}
 use Rattle.trace_io.specs.OutputText.{row_line, output_text}
 use Rattle.hepasync_top.specs.Outputs.{ErasedOutputs, input_shape, output_shape}
-use Rattle.trace_io.specs.declared.row_text.RowFault.{RowFault}
+use Rattle.run_messages.specs.declared.end.BadRow.{BadRow}
+use Rattle.run_messages.specs.declared.end.BadRow.TheVariants.{TooLong, Fault}
+use Rattle.run_messages.specs.declared.end.End.{End}
+use Rattle.run_messages.specs.declared.end.End.TheVariants.{Ended, BadRow as Bad_row, Limit, ReadFault, WriteFault}
+
+-- no line has more than 65,535 bytes
+abbrev pub AllShort : List (List ℕ) → Type 0
+AllShort [] = ⊤
+AllShort (line ∷ lines) = (length line ≤ 65535) × AllShort lines
 
 -- the first lines of bytes spell rows, and this is the rest
 pub record TakesRows (inputs : List Values) (bytes : List ℕ) (rows : List (List ℕ)) (rest : List ℕ) : Type 0 where
   pub lines : List (List ℕ)
   pub cut : lines_of bytes ≡ lines ++ lines_of rest
   pub read : map (row_text inputs) lines ≡ map Ok rows
+  pub short : AllShort lines
   pub shorter : length rest + length rows ≤ length bytes
 
 -- known bytes lose their first lines, which spell rows
@@ -28,16 +37,21 @@ AtMost None left = ⊤
 AtMost (Some bytes) None = ⊥
 AtMost (Some bytes) (Some left) = length left ≤ length bytes
 
+-- what is wrong with a line
+abbrev pub IsWrong : List Values → (line : List ℕ) → BadRow → Type 0
+IsWrong inputs line TooLong = 65535 < length line
+IsWrong inputs line (Fault fault) = (length line ≤ 65535) × (row_text inputs line ≡ Err fault)
+
 -- the first line is too long, or spells no row
-pub record IsBadLine (inputs : List Values) (bytes : List ℕ) : Type 0 where
+pub record IsBadLine (inputs : List Values) (fault : BadRow) (bytes : List ℕ) : Type 0 where
   pub line : List ℕ
   pub others : List (List ℕ)
   pub lines : lines_of bytes ≡ line ∷ others
-  pub fault : ((e : RowFault) × (row_text inputs line ≡ Err e)) ⊎ (65535 < length line)
+  pub wrong : IsWrong inputs line fault
 
-abbrev pub NextIsBad : List Values → Option (List ℕ) → Type 0
-NextIsBad inputs None = ⊤
-NextIsBad inputs (Some bytes) = IsBadLine inputs bytes
+abbrev pub NextIsBad : List Values → BadRow → Option (List ℕ) → Type 0
+NextIsBad inputs fault None = ⊤
+NextIsBad inputs fault (Some bytes) = IsBadLine inputs fault bytes
 
 abbrev pub HasNext : Option (List ℕ) → Type 0
 HasNext None = ⊤
@@ -72,10 +86,11 @@ pub record EndsInPart (p : Program) (coming held left now : Option (List ℕ)) :
   pub written : Appends held now (output_text (output_shape p) outs ++ take taken (row_line (output_shape p) out))
   pub within : AtMost rest left
 
--- How a run over a trace ends with a status, where at most `limit` rows may count.
-pub data RunEnds (p : Program) (limit : ℕ) (coming held left now : Option (List ℕ)) : (status : ℕ) → Type 0 where
-  ended : EndsAfter p coming held left now (λ n rest. IsAtEnd rest) → RunEnds p limit coming held left now 0
-  bad_row : EndsAfter p coming held left now (λ n rest. NextIsBad (input_shape p) rest) → RunEnds p limit coming held left now 4
-  limit_reached : EndsAfter p coming held left now (λ n rest. (n ≡ limit) × HasNext rest) → RunEnds p limit coming held left now 5
-  read_fault : EndsAfter p coming held left now (λ n rest. ⊤) → RunEnds p limit coming held left now 6
-  write_fault : EndsInPart p coming held left now → RunEnds p limit coming held left now 7
+-- How a run over a trace ends, where at most `limit` rows may count. Lines count from 1.
+abbrev pub RunEnds : Program → (limit : ℕ) → (coming held left now : Option (List ℕ)) → End → Type 0
+RunEnds p limit coming held left now Ended = EndsAfter p coming held left now (λ n rest. IsAtEnd rest)
+RunEnds p limit coming held left now (Bad_row line fault) = EndsAfter p coming held left now (λ n rest. (line ≡ n + 1) × NextIsBad (input_shape p) fault rest)
+RunEnds p limit coming held left now (Limit rows) = (rows ≡ limit) × EndsAfter p coming held left now (λ n rest. (n ≡ limit) × HasNext rest)
+RunEnds p limit coming held left now ReadFault = EndsAfter p coming held left now (λ n rest. ⊤)
+RunEnds p limit coming held left now WriteFault = EndsInPart p coming held left now
+RunEnds p limit coming held left now end = ⊥

@@ -1,7 +1,6 @@
 //! The top call: what a run of a program on a trace writes, and how it ends.
 #![tactic(auto)]
 
-mod end;
 mod equations;
 mod machine;
 mod served;

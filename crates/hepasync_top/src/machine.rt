@@ -6,10 +6,10 @@ ghost use Rattle.step_objects.specs.Shapes.{FitsShape};
 ghost use Rattle.step_cells.specs.Cells.{row_of};
 ghost use Rattle.hepasync_top.specs.Machine.{ReadsRow, EndsHere};
 
-use crate::end::End;
 use crate::stepper::Stepper;
 use hept_ast::{Memory, Program, meaning_laws};
 use hept_io::{LineFault, LineReader, Sink, Source};
+use run_messages::{BadRow, End};
 use std::alloc::Global;
 use step_objects::{Cell, Shape};
 use trace_io::{RowWriter, read_row};
@@ -32,7 +32,8 @@ impl Machine {
     ghost use Rattle.hepasync_top.specs.Served.{IsServed};
     ghost use Rattle.hept_io.specs.Lines.{to_come};
     ghost use Rattle.hept_io.specs.Outside.{Rose};
-    ghost use Rattle.hepasync_top.specs.Machine.{CanTurn, HasDone, Turns, TurnsEnd};
+    ghost use Rattle.hepasync_top.specs.Machine.{CanTurn, HasDone, Turns};
+    ghost use Rattle.hepasync_top.specs.Turns.{RunEnds};
 
     /// Makes all that takes memory, for a program.
     pub(crate) fn new(alloc: Global, program: &Program) -> Result<Machine, Memory>
@@ -80,19 +81,19 @@ impl Machine {
             .instant(self.row.as_slice(), self.values.as_mut_slice());
     }
 
-    /// One turn: reads a line, does its row's instant and writes the row of outputs.
-    fn turn<S: Source, K: Sink>(&mut self, trace: &mut S, out: &mut K) -> Result<(), End>
+    /// One turn: reads the line of this number, does its row's instant and writes the row of outputs.
+    fn turn<S: Source, K: Sink>(&mut self, line: u32, trace: &mut S, out: &mut K) -> Result<(), End>
         requires { CanTurn self.old }
         ensures can { OnOk result (CanTurn self.new) }
         ensures turns { (p : Program) (rows outs : List (List ℕ)) → HasDone p self.old rows outs →
-            Turns p rows outs (to_come self.old.reader (S.left trace.old)) (K.held out.old) result self.new (S.left trace.new) (K.held out.new) }
+            Turns p line rows outs (to_come self.old.reader (S.left trace.old)) (K.held out.old) result self.new (S.left trace.new) (K.held out.new) }
         ensures read_fault { result ≡ Err End.ReadFault → Rose (S.faults trace.old) (S.faults trace.new) }
         ensures write_fault { result ≡ Err End.WriteFault → Rose (K.faults out.old) (K.faults out.new) }
         ensures reads { S.faults trace.old ≤ S.faults trace.new }
         ensures writes { K.faults out.old ≤ K.faults out.new }
     {
         let row = self.row.as_mut_slice();
-        read_line(&mut self.reader, &self.inputs, row, trace)?;
+        read_line(&mut self.reader, &self.inputs, row, line, trace)?;
         self.step();
         match self.writer.row(&self.outputs, self.values.as_slice(), out) {
             Ok(()) => Ok(()),
@@ -109,7 +110,7 @@ impl Machine {
     ) -> End
         requires { CanTurn self.old }
         ensures ends { (p : Program) → HasDone p self.old [] [] →
-            TurnsEnd p limit (to_come self.old.reader (S.left trace.old)) (K.held out.old) result (S.left trace.new) (K.held out.new) }
+            RunEnds p limit (to_come self.old.reader (S.left trace.old)) (K.held out.old) (S.left trace.new) (K.held out.new) result }
         ensures read_fault { result ≡ End.ReadFault → Rose (S.faults trace.old) (S.faults trace.new) }
         ensures write_fault { result ≡ End.WriteFault → Rose (K.faults out.old) (K.faults out.new) }
         ensures reads { S.faults trace.old ≤ S.faults trace.new }
@@ -117,49 +118,56 @@ impl Machine {
     {
         meaning_laws();
         for counted in 0..limit {
-            if let Err(end) = self.turn(trace, out) {
+            if let Err(end) = self.turn(counted + 1, trace, out) {
                 return end;
             }
         }
-        end_of_trace(&mut self.reader, trace)
+        end_of_trace(&mut self.reader, limit, trace)
     }
 }
 
-/// Whether the trace ends here.
-fn end_of_trace<S: Source>(reader: &mut LineReader, trace: &mut S) -> End
+/// Whether the trace ends here, where as many rows counted as may.
+fn end_of_trace<S: Source>(reader: &mut LineReader, limit: u32, trace: &mut S) -> End
     requires { reader.old.is_spent ≡ false }
-    ensures ends { EndsHere (to_come reader.old (S.left trace.old)) result (S.left trace.new) }
+    ensures ends { EndsHere limit (to_come reader.old (S.left trace.old)) result (S.left trace.new) }
     ensures cause { result ≡ End.ReadFault → Rose (S.faults trace.old) (S.faults trace.new) }
     ensures count { S.faults trace.old ≤ S.faults trace.new }
 {
     match reader.next(trace) {
         Ok(None) => End::Ended,
-        Ok(Some(_)) | Err(LineFault::TooLong) => End::Limit,
+        Ok(Some(_)) | Err(LineFault::TooLong) => End::Limit(limit),
         Err(LineFault::Failed) => End::ReadFault,
     }
 }
 
-/// Reads the next line into a row.
+/// Reads the next line, which has this number, into a row.
 fn read_line<S: Source>(
     reader: &mut LineReader,
     shape: &Shape,
     row: &mut [Cell],
+    number: u32,
     trace: &mut S,
 ) -> Result<(), End>
     requires goes_on { reader.old.is_spent ≡ false }
     requires few { length shape.now < 2 ^ 32 }
     requires row { length row.old ≡ length shape.now }
-    ensures row { ReadsRow shape.now reader.old (S.left trace.old) result reader.new (S.left trace.new) row.new }
+    ensures row { ReadsRow shape.now number reader.old (S.left trace.old) result reader.new (S.left trace.new) row.new }
     ensures cause { result ≡ Err End.ReadFault → Rose (S.faults trace.old) (S.faults trace.new) }
     ensures count { S.faults trace.old ≤ S.faults trace.new }
 {
     match reader.next(trace) {
         Ok(Some(line)) => match read_row(shape, line, row) {
             Ok(()) => Ok(()),
-            Err(_) => Err(End::BadRow),
+            Err(fault) => Err(End::BadRow {
+                line: number,
+                fault: BadRow::Fault(fault),
+            }),
         },
         Ok(None) => Err(End::Ended),
         Err(LineFault::Failed) => Err(End::ReadFault),
-        Err(LineFault::TooLong) => Err(End::BadRow),
+        Err(LineFault::TooLong) => Err(End::BadRow {
+            line: number,
+            fault: BadRow::TooLong,
+        }),
     }
 }

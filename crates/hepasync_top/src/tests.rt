@@ -9,41 +9,80 @@ use std::test::Fail;
 
 const DELAYED_SUM: &[u8] = b"node main(x:int) returns (y:int) let y = 0 fby (y + x) tel\n";
 
-// The status and the output of a run of a program over a trace.
-fn outcome(
+/// Which calls of each object fail, counted from 1.
+#[derive(Clone, Copy)]
+struct Failing<'a> {
+    files: &'a [u64],
+    trace: &'a [u64],
+    out: &'a [u64],
+    err: &'a [u64],
+}
+
+const NONE: Failing<'static> = Failing {
+    files: &[],
+    trace: &[],
+    out: &[],
+    err: &[],
+};
+
+/// What a run came to: its status, the output, and the line on standard error.
+#[derive(Drop)]
+struct Outcome {
+    status: u8,
+    output: Vec<u8>,
+    line: Vec<u8>,
+}
+
+// A run of these words over a store that has the text under `a.ept`, or nothing where there is no text.
+fn outcome_of(
     alloc: Global,
-    text: &[u8],
+    words: &[&str],
+    text: Option<&[u8]>,
     trace: &[u8],
     chunk: usize,
-    write_fails: &[u64],
-) -> Result<(u8, Vec<u8>), AllocError>
+    failing: Failing,
+) -> Result<Outcome, AllocError>
     requires { 1 ≤ chunk }
 {
-    let name = String::from_str(alloc, "a.ept")?;
     let mut files = BTreeMap::new(alloc);
-    files.insert(name.clone()?, text.to_vec(alloc)?)?;
-    let words = vec![in alloc; name]?;
-    let mut store = MemoryStore::new(files, Vec::new(alloc));
-    let mut source = MemorySource::new(trace.to_vec(alloc)?, chunk, Vec::new(alloc));
-    let mut out = MemorySink::new(alloc, chunk, write_fails.to_vec(alloc)?);
-    let mut err = MemorySink::new(alloc, 1, Vec::new(alloc));
-    if out.reserve(1_000).is_err() {
+    if let Some(text) = text {
+        files.insert(String::from_str(alloc, "a.ept")?, text.to_vec(alloc)?)?;
+    }
+    let mut all = Vec::new(alloc);
+    for word in words {
+        all.push(String::from_str(alloc, *word)?)?;
+    }
+    let mut store = MemoryStore::new(files, failing.files.to_vec(alloc)?);
+    let mut source = MemorySource::new(trace.to_vec(alloc)?, chunk, failing.trace.to_vec(alloc)?);
+    let mut out = MemorySink::new(alloc, chunk, failing.out.to_vec(alloc)?);
+    let mut err = MemorySink::new(alloc, chunk, failing.err.to_vec(alloc)?);
+    if out.reserve(1_000).is_err() || err.reserve(1_000).is_err() {
         return Err(AllocError);
     }
     let RunEnd { status } = run(
         &(),
         alloc,
-        words.as_slice(),
+        all.as_slice(),
         &mut store,
         &mut source,
         &mut out,
         &mut err,
         &OpenGate,
     );
-    Ok((status, out.bytes().to_vec(alloc)?))
+    Ok(Outcome {
+        status,
+        output: out.bytes().to_vec(alloc)?,
+        line: err.bytes().to_vec(alloc)?,
+    })
 }
 
-// The same status and output, however the bytes come and go.
+fn expect_outcome<R: Abort>(rt: &R, outcome: Outcome, status: u8, output: &[u8], line: &[u8]) {
+    assert_eq!(rt; outcome.status, status);
+    assert_eq!(rt; outcome.output.as_slice(), output);
+    assert_eq!(rt; outcome.line.as_slice(), line);
+}
+
+// The same status, output and line, however the bytes come and go.
 fn expect<R: Abort>(
     rt: &R,
     alloc: Global,
@@ -51,76 +90,78 @@ fn expect<R: Abort>(
     trace: &[u8],
     status: u8,
     output: &[u8],
+    line: &[u8],
 ) -> Result<(), Fail> {
     for chunk in 1..6usize {
-        let (ended, written) = outcome(alloc, text, trace, chunk, &[])?;
-        assert_eq!(rt; ended, status);
-        assert_eq!(rt; written.as_slice(), output);
+        let outcome = outcome_of(alloc, &["a.ept"], Some(text), trace, chunk, NONE)?;
+        expect_outcome(rt, outcome, status, output, line);
     }
     Ok(())
 }
 
 #[test]
 fn delayed_sum(rt: HostRuntime) -> Result<(), Fail> {
-    expect(&rt, rt.alloc(), DELAYED_SUM, b"1\n2\n3\n", 0, b"0\n1\n3\n")
+    let output = b"0\n1\n3\n";
+    expect(&rt, rt.alloc(), DELAYED_SUM, b"1\n2\n3\n", 0, output, b"")
 }
 
 #[test]
 fn empty_trace(rt: HostRuntime) -> Result<(), Fail> {
-    expect(&rt, rt.alloc(), DELAYED_SUM, b"", 0, b"")
+    expect(&rt, rt.alloc(), DELAYED_SUM, b"", 0, b"", b"")
 }
 
 #[test]
 fn sum_wraps(rt: HostRuntime) -> Result<(), Fail> {
-    expect(
-        &rt,
-        rt.alloc(),
-        b"node main(x:int) returns (y:int) let y = x + 1 tel",
-        b"2147483647\n",
-        0,
-        b"-2147483648\n",
-    )
+    let text = b"node main(x:int) returns (y:int) let y = x + 1 tel";
+    let output = b"-2147483648\n";
+    expect(&rt, rt.alloc(), text, b"2147483647\n", 0, output, b"")
 }
 
 // A `fby` in the right operand of a `fby` is a memory of its own.
 #[test]
 fn nested_fby(rt: HostRuntime) -> Result<(), Fail> {
-    expect(
-        &rt,
-        rt.alloc(),
-        b"node main(x:int) returns (y:int) let y = 1 fby (2 fby (x - y)) tel",
-        b"10\n20\n30\n40\n50\n",
-        0,
-        b"1\n2\n9\n18\n21\n",
-    )
+    let text = b"node main(x:int) returns (y:int) let y = 1 fby (2 fby (x - y)) tel";
+    let trace = b"10\n20\n30\n40\n50\n";
+    let output = b"1\n2\n9\n18\n21\n";
+    expect(&rt, rt.alloc(), text, trace, 0, output, b"")
 }
 
 #[test]
 fn carriage_return(rt: HostRuntime) -> Result<(), Fail> {
-    expect(&rt, rt.alloc(), DELAYED_SUM, b"1\n2\r\n3", 0, b"0\n1\n3\n")
+    let output = b"0\n1\n3\n";
+    expect(&rt, rt.alloc(), DELAYED_SUM, b"1\n2\r\n3", 0, output, b"")
 }
 
 #[test]
 fn value_counts(rt: HostRuntime) -> Result<(), Fail> {
-    expect(&rt, rt.alloc(), DELAYED_SUM, b"1\n2 3\n", 4, b"0\n")?;
-    expect(&rt, rt.alloc(), DELAYED_SUM, b"1\n\n", 4, b"0\n")
+    let alloc = rt.alloc();
+    let many = b"hepasync: line 2: too many values at 2\n";
+    expect(&rt, alloc, DELAYED_SUM, b"1\n2 3\n", 4, b"0\n", many)?;
+    let few = b"hepasync: line 2: too few values: 0\n";
+    expect(&rt, alloc, DELAYED_SUM, b"1\n\n", 4, b"0\n", few)?;
+    let bad = b"hepasync: line 3: bad value at 1\n";
+    expect(&rt, alloc, DELAYED_SUM, b"1\n2\n x\n", 4, b"0\n1\n", bad)
 }
 
 #[test]
 fn undeclared(rt: HostRuntime) -> Result<(), Fail> {
-    expect(
-        &rt,
-        rt.alloc(),
-        b"node main(x:int) returns (y:int) let y = z tel",
-        b"1\n",
-        1,
-        b"",
-    )
+    let text = b"node main(x:int) returns (y:int) let y = z tel";
+    let line = b"hepasync: refused: not served\n";
+    expect(&rt, rt.alloc(), text, b"1\n", 1, b"", line)
 }
 
-// Texts of programs that aren't run so far, and texts of none.
 #[test]
-fn refused(rt: HostRuntime) -> Result<(), Fail> {
+fn empty_file(rt: HostRuntime) -> Result<(), Fail> {
+    let alloc = rt.alloc();
+    let none = b"hepasync: refused: no node\n";
+    expect(&rt, alloc, b"", b"1\n", 1, b"", none)?;
+    let open = b"hepasync: refused: open comment at 0\n";
+    expect(&rt, alloc, b"(* a", b"1\n", 1, b"", open)
+}
+
+// Texts of programs that aren't run so far.
+#[test]
+fn not_served(rt: HostRuntime) -> Result<(), Fail> {
     let texts = [
         // an input that is defined
         b"node main(x:int) returns (y:int) let y = x; x = 1 tel".as_slice(),
@@ -130,22 +171,126 @@ fn refused(rt: HostRuntime) -> Result<(), Fail> {
         b"node main(x:int) returns (y:int) let y = x * x tel".as_slice(),
         // a type
         b"type t = A node main(x:int) returns (y:int) let y = x tel".as_slice(),
-        // no node
-        b"".as_slice(),
-        // no text of a program
-        b"node main(x:int) returns (y:int) let y = x".as_slice(),
-        b"node main(x:int) returns (y:int) let y = ? tel".as_slice(),
     ];
     for text in texts {
-        expect(&rt, rt.alloc(), text, b"1\n", 1, b"")?;
+        let line = b"hepasync: refused: not served\n";
+        expect(&rt, rt.alloc(), text, b"1\n", 1, b"", line)?;
     }
     Ok(())
 }
 
 #[test]
-fn failing_sink(rt: HostRuntime) -> Result<(), Fail> {
-    let (ended, written) = outcome(rt.alloc(), DELAYED_SUM, b"1\n2\n3\n", 65_536, &[2])?;
-    assert_eq!(rt; ended, 7);
-    assert_eq!(rt; written.as_slice(), b"0\n".as_slice());
+fn reader_faults(rt: HostRuntime) -> Result<(), Fail> {
+    let rows = [
+        (
+            b"node main(x:".as_slice(),
+            b"hepasync: refused: unexpected at 12\n".as_slice(),
+        ),
+        (
+            b"node main(x:in".as_slice(),
+            b"hepasync: refused: unexpected at 12\n".as_slice(),
+        ),
+        (
+            b"(* (* *)".as_slice(),
+            b"hepasync: refused: open comment at 0\n".as_slice(),
+        ),
+        (
+            b"node main(x:int) returns (y:int) let y = -2147483648 tel".as_slice(),
+            b"hepasync: refused: number too large at 42\n".as_slice(),
+        ),
+        (
+            b"node ?".as_slice(),
+            b"hepasync: refused: bad byte at 5\n".as_slice(),
+        ),
+    ];
+    for (text, line) in rows {
+        expect(&rt, rt.alloc(), text, b"1\n", 1, b"", line)?;
+    }
+    Ok(())
+}
+
+#[test]
+fn too_deep(rt: HostRuntime) -> Result<(), Fail> {
+    let alloc = rt.alloc();
+    let mut text = Vec::new(alloc);
+    text.extend_from_slice(b"node main(x:int) returns (y:int) let y = ")?;
+    for _ in 0..513 {
+        text.push(b'-')?;
+    }
+    text.extend_from_slice(b"x tel")?;
+    let line = b"hepasync: refused: too deep at 553\n";
+    let outcome = outcome_of(alloc, &["a.ept"], Some(text.as_slice()), b"1\n", 9, NONE)?;
+    expect_outcome(&rt, outcome, 1, b"", line);
+    Ok(())
+}
+
+fn expect_usage<R: Abort>(rt: &R, alloc: Global, words: &[&str]) -> Result<(), Fail> {
+    let outcome = outcome_of(alloc, words, Some(DELAYED_SUM), b"1\n", 9, NONE)?;
+    expect_outcome(rt, outcome, 2, b"", b"hepasync: usage\n");
+    Ok(())
+}
+
+#[test]
+fn usage(rt: HostRuntime) -> Result<(), Fail> {
+    let alloc = rt.alloc();
+    expect_usage(&rt, alloc, &[])?;
+    expect_usage(&rt, alloc, &[""])?;
+    expect_usage(&rt, alloc, &["-a"])?;
+    expect_usage(&rt, alloc, &["a.ept", "--workers", "65"])
+}
+
+#[test]
+fn files(rt: HostRuntime) -> Result<(), Fail> {
+    let alloc = rt.alloc();
+    let large = vec![in alloc; b' '; 1_048_577]?;
+    let outcome = outcome_of(alloc, &["a.ept"], Some(large.as_slice()), b"1\n", 9, NONE)?;
+    expect_outcome(&rt, outcome, 3, b"", b"hepasync: file too large\n");
+    let failing = Failing {
+        files: &[1],
+        ..NONE
+    };
+    let outcome = outcome_of(alloc, &["a.ept"], Some(DELAYED_SUM), b"1\n", 9, failing)?;
+    expect_outcome(&rt, outcome, 3, b"", b"hepasync: file not read\n");
+    let outcome = outcome_of(alloc, &["a.ept"], None, b"1\n", 9, NONE)?;
+    expect_outcome(&rt, outcome, 3, b"", b"hepasync: no such file\n");
+    Ok(())
+}
+
+#[test]
+fn failing_devices(rt: HostRuntime) -> Result<(), Fail> {
+    let alloc = rt.alloc();
+    let text = Some(DELAYED_SUM);
+    let trace = b"1\n2\n3\n";
+    let failing = Failing { out: &[2], ..NONE };
+    let outcome = outcome_of(alloc, &["a.ept"], text, trace, 65_536, failing)?;
+    expect_outcome(&rt, outcome, 7, b"0\n", b"hepasync: output not written\n");
+    let failing = Failing {
+        trace: &[1],
+        ..NONE
+    };
+    let outcome = outcome_of(alloc, &["a.ept"], text, trace, 65_536, failing)?;
+    expect_outcome(&rt, outcome, 6, b"", b"hepasync: trace not read\n");
+    // a failing sink for the line changes neither the status nor the output
+    let failing = Failing { err: &[2], ..NONE };
+    let outcome = outcome_of(alloc, &["a.ept"], text, b"1\n2 3\n", 65_536, failing)?;
+    expect_outcome(&rt, outcome, 4, b"0\n", b"hepasync: ");
+    Ok(())
+}
+
+#[test]
+fn long_line(rt: HostRuntime) -> Result<(), Fail> {
+    let alloc = rt.alloc();
+    let mut trace = Vec::new(alloc);
+    trace.extend_from_slice(b"1\n")?;
+    trace.extend_from_slice(vec![in alloc; b' '; 65_536]?.as_slice())?;
+    let outcome = outcome_of(
+        alloc,
+        &["a.ept"],
+        Some(DELAYED_SUM),
+        trace.as_slice(),
+        9,
+        NONE,
+    )?;
+    expect_outcome(&rt, outcome, 4, b"0\n", b"hepasync: line 2: too long\n");
     Ok(())
 }

@@ -1,20 +1,23 @@
 //! The top call.
-ghost use Rattle.std.specs.Prelude.{◌≡◌, ◌≤◌, ◌<◌, ◌^◌, length, ◌≢◌, ◌⊎◌, [], None, ◌↔◌, map, string_bytes, IfOk, IfErr, IfSome, Some, Err};
-ghost use Rattle.hepasync_top.specs.Served.{IsServed};
+ghost use Rattle.std.specs.Prelude.{◌≡◌, ◌≤◌, ◌<◌, ◌^◌, length, ◌⊎◌, [], None, ◌↔◌, map, string_bytes, IfOk, IfErr, IfSome, IsTrue, OnOk, MatchResult, Some, Err};
+ghost use Rattle.hept_ast.specs.declared.tree.Program.{Program as AnyProgram};
 ghost use Rattle.hept_io.specs.Outside.{Rose};
-ghost use Rattle.hepasync_top.specs.End.{IsBefore, status_of};
-ghost use Rattle.hepasync_top.specs.Machine.{IsFresh};
-ghost use Rattle.hepasync_top.specs.Run.{FileIsNotRead, FileIsRefused, IsRefusedText, HasNoneLeft, Runs, StopsBefore, WritesOnlyAfterReading, WrittenWhereTold};
+ghost use Rattle.run_messages.specs.Ends.{status_of};
+ghost use Rattle.run_messages.specs.declared.end.Refusal.{Refusal as AnyRefusal};
 ghost use Rattle.ept_reader.specs.Spelling.{IsProgramText};
+ghost use Rattle.hepasync_top.specs.Served.{IsServed};
+ghost use Rattle.hepasync_top.specs.Machine.{HasDone, IsFresh};
+ghost use Rattle.hepasync_top.specs.Stops.{FileIsNotRead, FileIsRefused, IsEmpty, IsRefusedProgram, IsRefusedText, IsUnforeseen, StopsFor, end_of};
+ghost use Rattle.hepasync_top.specs.Run.{ComesTo, Ends, HasNoneLeft, IsProgramFile, RefusesExactly, RunsServed, WritesOnlyAfterReading, WrittenWhereTold};
 ghost use Rattle.hepasync_top.specs.Words.{file_of};
 
-use crate::end::End;
 use crate::machine::Machine;
 use crate::served::is_served;
 use crate::words::{file_of, read_text};
 use ept_reader::{ReadFault, read_program};
 use hept_ast::{Memory, Program};
 use hept_io::{Gate, Sink, Source, Store, line_laws};
+use run_messages::{End, Refusal, write_line};
 use std::alloc::Global;
 
 /// The most rows that may count.
@@ -31,11 +34,39 @@ pub struct RunEnd {
 
 /// How a run ends whose text is not read.
 fn end_of(fault: ReadFault) -> End
-    ensures { ((result ≡ End.Refused) × (fault ≢ ReadFault.Memory)) ⊎ (result ≡ End.Memory) }
+    ensures { result ≡ end_of fault }
 {
     match fault {
+        ReadFault::BadByte { at } => End::Refused(Refusal::BadByte { at }),
+        ReadFault::OpenComment { at } => End::Refused(Refusal::OpenComment { at }),
+        ReadFault::NumberTooLarge { at } => End::Refused(Refusal::NumberTooLarge { at }),
+        ReadFault::Unexpected { at } => End::Refused(Refusal::Unexpected { at }),
+        ReadFault::TooDeep { at } => End::Refused(Refusal::TooDeep { at }),
         ReadFault::Memory => End::Memory,
-        _ => End::Refused,
+    }
+}
+
+fn is_empty(program: &Program) -> bool
+    ensures { IsTrue result ↔ IsEmpty program.now }
+{
+    if !program.types.is_empty() {
+        return false;
+    }
+    program.nodes.is_empty()
+}
+
+/// Whether a program that was read is one that is run so far.
+fn check_served(alloc: Global, program: &Program) -> Result<(), End>
+    ensures served { OnOk result (IsServed program.now) }
+    ensures ends { IfErr result (λ e. (e ≡ End.Memory) ⊎ ((r : AnyRefusal) × (e ≡ End.Refused r) × IsRefusedProgram program.now r)) }
+{
+    if is_empty(program) {
+        return Err(End::Refused(Refusal::NoNode));
+    }
+    match is_served(alloc, program) {
+        Ok(true) => Ok(()),
+        Ok(false) => Err(End::Refused(Refusal::NotServed)),
+        Err(Memory) => Err(End::Memory),
     }
 }
 
@@ -44,26 +75,28 @@ fn read_served(alloc: Global, text: &[u8]) -> Result<Program, End>
     requires { length text.now < 2 ^ 32 }
     ensures text { IfOk result (λ p. IsProgramText text.now p) }
     ensures served { IfOk result (λ p. IsServed p) }
-    ensures ends { IfErr result (λ e. ((e ≡ End.Refused) × IsRefusedText text.now) ⊎ (e ≡ End.Memory)) }
+    ensures ends { IfErr result (λ e. (e ≡ End.Memory) ⊎ ((r : AnyRefusal) × (e ≡ End.Refused r) × IsRefusedText text.now r)) }
+    // What is to be refused is refused so, and what is served is read, unless memory runs out.
+    ensures exactly { (r : AnyRefusal) → IsRefusedText text.now r → MatchResult result (λ _. ⊥) (λ e. (e ≡ End.Refused r) ⊎ (e ≡ End.Memory)) }
+    ensures complete { (p : AnyProgram) → IsProgramText text.now p → IsServed p → MatchResult result (λ q. q ≡ p) (λ e. e ≡ End.Memory) }
 {
     let program = match read_program(alloc, text) {
         Ok(program) => program,
         Err(fault) => return Err(end_of(fault)),
     };
-    match is_served(alloc, &program) {
-        Ok(true) => Ok(program),
-        Ok(false) => Err(End::Refused),
-        Err(_) => Err(End::Memory),
-    }
+    check_served(alloc, &program)?;
+    Ok(program)
 }
 
 /// Makes all that takes memory: nothing does once the trace is read.
 fn prepare<F: Store>(alloc: Global, words: &[String], files: &mut F) -> Result<Machine, End>
     ensures ready { IfOk result (λ m. IsFresh (F.files files.old) (map string_bytes words.now) m) }
-    ensures ends { IfErr result IsBefore }
-    ensures usage { (result ≡ Err End.Usage) ↔ (file_of (map string_bytes words.now) ≡ None) }
-    ensures refused { result ≡ Err End.Refused → FileIsRefused (F.files files.old) (map string_bytes words.now) }
-    ensures file { result ≡ Err End.File → FileIsNotRead (F.files files.old) (map string_bytes words.now) (F.faults files.old) (F.faults files.new) }
+    ensures ends { IfErr result (λ e. StopsFor e (F.files files.old) (map string_bytes words.now) (F.faults files.old) (F.faults files.new)) }
+    ensures usage { file_of (map string_bytes words.now) ≡ None → result ≡ Err End.Usage }
+    ensures exactly { IfSome (F.files files.old) (λ files. (r : AnyRefusal) → FileIsRefused r (Some files) (map string_bytes words.now) →
+        MatchResult result (λ _. ⊥) (λ e. (e ≡ End.Refused r) ⊎ IsUnforeseen e)) }
+    ensures complete { IfSome (F.files files.old) (λ files. (p : AnyProgram) → IsProgramFile files (map string_bytes words.now) p →
+        MatchResult result (λ m. HasDone p m [] []) IsUnforeseen) }
     ensures count { F.faults files.old ≤ F.faults files.new }
 {
     let Some(name) = file_of(words) else {
@@ -85,11 +118,12 @@ fn run_to_end<F: Store, S: Source, K: Sink>(
     trace: &mut S,
     out: &mut K,
 ) -> End
-    ensures runs { Runs 4294967294 (F.files files.old) (map string_bytes words.now) (S.left trace.old) (K.held out.old) (S.left trace.new) (K.held out.new) (status_of result)
-        ⊎ StopsBefore (S.left trace.old) (K.held out.old) (S.left trace.new) (K.held out.new) (status_of result) }
-    ensures usage { (result ≡ End.Usage) ↔ (file_of (map string_bytes words.now) ≡ None) }
-    ensures refused { result ≡ End.Refused → FileIsRefused (F.files files.old) (map string_bytes words.now) }
-    ensures file { result ≡ End.File → FileIsNotRead (F.files files.old) (map string_bytes words.now) (F.faults files.old) (F.faults files.new) }
+    ensures ends { Ends 4294967294 (F.files files.old) (map string_bytes words.now) (F.faults files.old) (F.faults files.new)
+        (S.left trace.old) (K.held out.old) (S.left trace.new) (K.held out.new) result }
+    ensures usage { file_of (map string_bytes words.now) ≡ None → result ≡ End.Usage }
+    ensures refuses { RefusesExactly (F.files files.old) (map string_bytes words.now) result }
+    ensures serves { RunsServed 4294967294 (F.files files.old) (map string_bytes words.now)
+        (S.left trace.old) (K.held out.old) (S.left trace.new) (K.held out.new) result }
     ensures read_fault { result ≡ End.ReadFault → Rose (S.faults trace.old) (S.faults trace.new) }
     ensures write_fault { result ≡ End.WriteFault → Rose (K.faults out.old) (K.faults out.new) }
     ensures files { F.faults files.old ≤ F.faults files.new }
@@ -106,8 +140,9 @@ fn run_to_end<F: Store, S: Source, K: Sink>(
 }
 
 /// Runs the program of the file that the words name over the trace: for each line, which spells a row
-/// of input values, the row of output values is written. `rt` and `gate` are not used so far, and `err`
-/// stays unwritten.
+/// of input values, the row of output values is written. Where the run stops before the end of the
+/// trace, a line that says why goes to `err`; whether that is written changes nothing else. `rt` and
+/// `gate` are not used so far.
 pub fn run<R, F: Store, S: Source, K: Sink, E: Sink, G: Gate>(
     rt: &R,
     alloc: Global,
@@ -122,29 +157,26 @@ pub fn run<R, F: Store, S: Source, K: Sink, E: Sink, G: Gate>(
     ensures written { result.status ≡ 0 → WrittenWhereTold (F.files files.old) (map string_bytes words.now) (S.left trace.old) (K.held out.old) (K.held out.new) }
     ensures all_read { result.status ≡ 0 → HasNoneLeft (S.left trace.old) (S.left trace.new) }
 
-    // How it ends at each status.
-    ensures ends { Runs 4294967294 (F.files files.old) (map string_bytes words.now) (S.left trace.old) (K.held out.old) (S.left trace.new) (K.held out.new) result.status
-        ⊎ StopsBefore (S.left trace.old) (K.held out.old) (S.left trace.new) (K.held out.new) result.status }
+    // How and why it ends at each status, and the line that says so.
+    ensures ends { ComesTo 4294967294 (F.files files.old) (map string_bytes words.now) (F.faults files.old) (F.faults files.new)
+        (S.left trace.old) (K.held out.old) (S.left trace.new) (K.held out.new) (E.held err.old) (E.held err.new) (E.faults err.old) (E.faults err.new) result.status }
     ensures status { result.status ≤ 8 }
     ensures untouched { WritesOnlyAfterReading (S.left trace.old) (S.left trace.new) (K.held out.old) (K.held out.new) }
-
-    // Why it ends so.
     ensures usage { (result.status ≡ 2) ↔ (file_of (map string_bytes words.now) ≡ None) }
-    ensures refused { result.status ≡ 1 → FileIsRefused (F.files files.old) (map string_bytes words.now) }
-    ensures file { result.status ≡ 3 → FileIsNotRead (F.files files.old) (map string_bytes words.now) (F.faults files.old) (F.faults files.new) }
     ensures read_fault { result.status ≡ 6 → Rose (S.faults trace.old) (S.faults trace.new) }
     ensures write_fault { result.status ≡ 7 → Rose (K.faults out.old) (K.faults out.new) }
-
     ensures memory { result.status ≡ 8 → (S.left trace.new ≡ S.left trace.old) × (K.held out.new ≡ K.held out.old) }
+    ensures quiet { result.status ≡ 0 → err.new ≡ err.old }
 
-    // No count of faults falls, and the last sink is not touched.
+    // No count of faults falls.
     ensures files { F.faults files.old ≤ F.faults files.new }
     ensures reads { S.faults trace.old ≤ S.faults trace.new }
     ensures writes { K.faults out.old ≤ K.faults out.new }
-    ensures err { err.new ≡ err.old }
+    ensures says { E.faults err.old ≤ E.faults err.new }
 {
     line_laws();
     let end = run_to_end(alloc, words, files, trace, out);
+    let _ = write_line(&end, err);
     RunEnd {
         status: end.status(),
     }

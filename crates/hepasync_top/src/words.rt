@@ -1,11 +1,12 @@
 //! The words of the program, and the file that they name.
-ghost use Rattle.std.specs.Prelude.{◌≡◌, ℕ, ◌≤◌, List, length, map, string_bytes, IfOk, IfSome, OnErr, MatchOption, Some, None, Err, ◌⊎◌};
+ghost use Rattle.std.specs.Prelude.{◌≡◌, ℕ, ◌≤◌, List, length, map, string_bytes, IfOk, IfErr, IfSome, MatchOption, Some, None, ◌⊎◌};
 ghost use Rattle.hept_io.specs.Outside.{HasFile};
-ghost use Rattle.hepasync_top.specs.End.{IsNotRead};
+ghost use Rattle.hepasync_top.specs.Stops.{IsNotRead};
+ghost use Rattle.run_messages.specs.declared.end.FileFault.{FileFault as AnyFileFault};
 ghost use Rattle.hepasync_top.specs.Words.{file_of};
 
-use crate::end::End;
 use hept_io::{Store, StoreFault};
+use run_messages::{End, FileFault};
 use std::alloc::Global;
 
 /// The file that the words name, where they are one word that isn't empty and doesn't begin with `-`.
@@ -25,8 +26,8 @@ pub(crate) fn file_of(words: &[String]) -> Option<&str>
 pub(crate) fn read_text<F: Store>(alloc: Global, name: &str, files: &mut F) -> Result<Vec<u8>, End>
     ensures read { IfOk result (λ text. IfSome (F.files files.old) (λ map. HasFile map name.now text.items)) }
     ensures bound { IfOk result (λ text. length text.items ≤ 1048576) }
-    ensures ends { OnErr result ((result ≡ Err End.File) ⊎ (result ≡ Err End.Memory)) }
-    ensures file { result ≡ Err End.File → IsNotRead (F.files files.old) (F.faults files.old) (F.faults files.new) name.now }
+    ensures ends { IfErr result (λ e. (e ≡ End.Memory) ⊎ ((f : AnyFileFault) × (e ≡ End.File f)
+        × IsNotRead f (F.files files.old) (F.faults files.old) (F.faults files.new) name.now)) }
     ensures kept { F.files files.new ≡ F.files files.old }
     ensures count { F.faults files.old ≤ F.faults files.new }
 {
@@ -34,6 +35,8 @@ pub(crate) fn read_text<F: Store>(alloc: Global, name: &str, files: &mut F) -> R
     match files.read_file(name, &mut text) {
         Ok(()) => Ok(text),
         Err(StoreFault::Memory) => Err(End::Memory),
-        Err(StoreFault::Failed | StoreFault::TooLarge | StoreFault::Missing) => Err(End::File),
+        Err(StoreFault::Failed) => Err(End::File(FileFault::Failed)),
+        Err(StoreFault::TooLarge) => Err(End::File(FileFault::TooLarge)),
+        Err(StoreFault::Missing) => Err(End::File(FileFault::Missing)),
     }
 }

@@ -1,12 +1,26 @@
 use Rattle.std.proofs.Common.{sym, ◌∙◌}
-use Rattle.hepasync_top.proofs.Statuses.{memory_before, written_at_end, untouched}
+use Rattle.hepasync_top.proofs.Statuses.{memory_before, written_at_end, none_left_at_end, untouched, ended_at}
+use Rattle.hepasync_top.proofs.Refusing.{says_line}
 use Rattle.hepasync_top.proofs.top.run.Goals as goal
 
 pub returns-clause-written : goal.returns-clause-written
-returns-clause-written g c = λ e. written_at_end _ _ _ _ _ _ _ _ c.line_laws.ensures.none c.run_to_end-end.ensures.runs (sym c.status.ensures ∙ e)
+returns-clause-written g c = λ e. written_at_end _ _ _ _ _ _ _ _ _ _ c.line_laws.ensures.none c.run_to_end-end.ensures.ends (ended_at _ (sym c.status.ensures ∙ e))
+
+pub returns-clause-all_read : goal.returns-clause-all_read
+returns-clause-all_read g c = λ e. none_left_at_end _ _ _ _ _ _ _ _ _ _ c.run_to_end-end.ensures.ends (ended_at _ (sym c.status.ensures ∙ e))
+
+pub returns-clause-ends : goal.returns-clause-ends
+returns-clause-ends g c = record {
+  end = c.run_to_end-end.result;
+  status_is = c.status.ensures;
+  ends = c.run_to_end-end.ensures.ends;
+  refuses = c.run_to_end-end.ensures.refuses;
+  serves = c.run_to_end-end.ensures.serves;
+  says = says_line _ c.write_line.result _ _ _ _ c.write_line.ensures.line c.write_line.ensures.cause;
+}
 
 pub returns-clause-untouched : goal.returns-clause-untouched
-returns-clause-untouched g c = untouched _ _ _ _ _ _ _ _ c.run_to_end-end.ensures.runs
+returns-clause-untouched g c = untouched _ _ _ _ _ _ _ _ _ _ c.run_to_end-end.ensures.ends
 
 pub returns-clause-memory : goal.returns-clause-memory
-returns-clause-memory g c = λ e. memory_before _ _ _ _ _ _ _ _ c.run_to_end-end.ensures.runs (sym c.status.ensures ∙ e)
+returns-clause-memory g c = λ e. memory_before _ _ _ _ _ _ _ _ _ _ c.run_to_end-end.ensures.ends (sym c.status.ensures ∙ e)
