@@ -227,10 +227,12 @@ module _ (V : List Name) (node : Node) where
         let ts = transitions s true labels own in
         let r = split (parts_of_all inner body ++ tw ++ ts) (parts_of_states s strong labels rest) d.1 in
         let b = split (parts_of_all inner body ++ tw) ts r.0 in
-        let c = split (parts_of_all inner body) tw b.0 in
-        (d.0, joined (parts_of_all inner body ++ tw ++ ts) (parts_of_states s strong labels rest)
-        (joined (parts_of_all inner body ++ tw) ts (joined (parts_of_all inner body) tw (sites_of_all inner body d.0 c.0) (sites_of_transitions inner false labels weak d.0)) (sites_of_transitions s true labels own sub))
-        (sites_of_states s strong labels rest sub r.1))
+        let c = split (parts_of_all inner body) tw b.0 in (
+          d.0,
+          joined (parts_of_all inner body ++ tw ++ ts) (parts_of_states s strong labels rest)
+              (joined (parts_of_all inner body ++ tw) ts (joined (parts_of_all inner body) tw (sites_of_all inner body d.0 c.0) (sites_of_transitions inner false labels weak d.0)) (sites_of_transitions s true labels own sub))
+              (sites_of_states s strong labels rest sub r.1),
+        )
 
   -- what parts declare is among what they all declare
   all_declared : (qs : List Placed) → Among V (names (flat_map (λ (q : Placed). declared_in q.part) qs)) → DeclaresIn qs

@@ -15,7 +15,7 @@ use Rattle.hept_ast.specs.Clocks.{Base, Of, Inner, On, Condition, clock, Meets, 
 use Rattle.hept_ast.specs.declared.tree.Tag.{Tag}
 use Rattle.hept_ast.specs.declared.tree.Tag.TheVariants as tag
 use Rattle.hept_ast.specs.declared.tree.ClockStep.{ClockStep}
-use Rattle.clock_calculus.specs.Numbering.{same_step, step_number, encoded, equation_of, IsNumbered, KnowsStep}
+use Rattle.clock_calculus.specs.Numbering.{same_step, step_number, step_at, clock_path, encoded, equation_of, solved_clock, IsNumbered, KnowsStep}
 use Rattle.clock_calculus.specs.Proper.{HasNumber, IsDeclared, IsOuter, IsProper, AreProper}
 use Rattle.clock_calculus.specs.Solving.{Equation, Holds, Solves, IsFirstClash}
 use Rattle.clock_calculus.specs.Unify.{Assignment, base_path, path, Bindings, bound, Respects, IsWithin, least, steps_of}
@@ -73,7 +73,7 @@ none_counted : {X : Type 0} (p : X → Bool) (xs : List X) → list_any p xs ≡
 none_counted p [] e = refl
 none_counted p (x ∷ xs) e = none_step (p x) (position_or_len p xs) (length xs) (list_any p xs) (none_counted p xs) e
 
-not_listed : {X : Type 0} (p : X → Bool) (xs : List X) → list_any p xs ≡ false → position p xs ≡ None
+pub not_listed : {X : Type 0} (p : X → Bool) (xs : List X) → list_any p xs ≡ false → position p xs ≡ None
 not_listed p xs e = let all = none_counted p xs e in grind (arith, nat_tests)
 
 module _ (V : List Name) (S : List ClockStep) where
@@ -147,35 +147,29 @@ module _ (V : List Name) (S : List ClockStep) where
 
   -- ---- from numbers to clocks
 
-  abbrev step_at : ℕ → ClockStep
-  step_at i = slice_index_or S i (record { tag = tag.Truth true; name = [] })
-
-  abbrev pub clock_path : List ℕ → Clock
-  clock_path p = map step_at p
-
   unfoldable pub from_numbers : Assignment → clocks.Assignment
-  from_numbers b = record { variable = λ x. clock_path (base_path b (position (same x) V)); expression = λ n. clock_path (b (length V + n)) }
+  from_numbers b = record { variable = λ x. clock_path S (base_path b (position (same x) V)); expression = λ n. clock_path S (b (length V + n)) }
 
-  known_step : (s : ClockStep) → list_any (same_step s) S ≡ true → step_at (step_number S s) ≡ s
+  known_step : (s : ClockStep) → list_any (same_step s) S ≡ true → step_at S (step_number S s) ≡ s
   known_step s k =
       let i = position_or_len (same_step s) S in
       let e = position_found (same_step s) S k in
       let w = position-Some (same_step s) S i (record { tag = tag.Truth true; name = [] }) e in
-      ap (λ o. step_at (unwrap_or o 0)) e ∙ sym (step_true s (step_at i) w.1)
+      ap (λ o. step_at S (unwrap_or o 0)) e ∙ sym (step_true s (step_at S i) w.1)
 
-  from_term : (b : Assignment) (t : clocks.Term) → KnowsStep S t → clock (from_numbers b) t ≡ clock_path (path b (encoded V S t))
+  from_term : (b : Assignment) (t : clocks.Term) → KnowsStep S t → clock (from_numbers b) t ≡ clock_path S (path b (encoded V S t))
   unfolding encoded from_numbers
   from_term b Base k = refl
-  from_term b (Of x) k = ap clock_path (sym (append-nil (base_path b (position (same x) V))))
-  from_term b (Inner n) k = ap clock_path (sym (append-nil (b (length V + n))))
+  from_term b (Of x) k = ap (clock_path S) (sym (append-nil (base_path b (position (same x) V))))
+  from_term b (Inner n) k = ap (clock_path S) (sym (append-nil (b (length V + n))))
   from_term b (On t tag x) k =
       let s : ClockStep = record { tag = tag; name = x } in
       let e = encoded V S t in
-      ap (λ p. p ++ s ∷ []) (from_term b t k.0) ∙ ap (λ u. clock_path (path b e) ++ u ∷ []) (sym (known_step s k.1)) ∙ sym (map-append step_at (path b e) (step_number S s ∷ []))
-      ∙ ap clock_path (append_assoc (base_path b e.base) e.steps (step_number S s ∷ []))
+      ap (λ p. p ++ s ∷ []) (from_term b t k.0) ∙ ap (λ u. clock_path S (path b e) ++ u ∷ []) (sym (known_step s k.1)) ∙ sym (map-append (step_at S) (path b e) (step_number S s ∷ []))
+      ∙ ap (clock_path S) (append_assoc (base_path b e.base) e.steps (step_number S s ∷ []))
 
   from_condition : (b : Assignment) (c : Condition) → KnowsStep S c.left → KnowsStep S c.right → Holds b (equation_of V S c) → clock (from_numbers b) c.left ≡ clock (from_numbers b) c.right
-  from_condition b c kl kr e = from_term b c.left kl ∙ ap clock_path e ∙ sym (from_term b c.right kr)
+  from_condition b c kl kr e = from_term b c.left kl ∙ ap (clock_path S) e ∙ sym (from_term b c.right kr)
 
   -- ---- lists of conditions
 
@@ -220,15 +214,19 @@ module _ (V : List Name) (S : List ClockStep) where
   pub solved_meets : (u : ℕ) (b : Bindings) (cs : List Condition) → KnowsAll cs → Solves u b (equations cs) → Meets (from_numbers (least b)) cs
   solved_meets u b cs k s = all_from (least b) cs k (s.says (least b) (least_respects b s.solved))
 
+  pub solved_clocks : (b : Bindings) → (from_numbers (least b)).variable ≡ solved_clock V S b
+  unfolding from_numbers solved_clock
+  solved_clocks b = refl
+
   no_shorter : (u n : ℕ) (b : Bindings) (cs : List Condition) → AreProper V n cs → Solves u b (equations cs) → (a : clocks.Assignment) → Meets a cs → (x : Name) (o : Option ℕ) → position (same x) V ≡ o → is_in x V ≡ true
-      → length (clock_path (base_path (least b) o)) ≤ length (a.variable x)
+      → length (clock_path S (base_path (least b) o)) ≤ length (a.variable x)
   no_shorter u n b cs p s a m x None e d = let f = position_found (same x) V d in cc
   no_shorter u n b cs p s a m x (Some i) e d =
       let w = name_at x V i e in
       let r = s.least_so (to_numbers a) (all_to n a cs p m) in
       let h = least_is_least b (to_numbers a) r i in
       let l : length (to_numbers a i) ≡ length (a.variable x) = ap length (to_variable a i w.0 ∙ ap (λ y. number_path (a.variable y)) w.1) ∙ length-map (a.variable x) (step_number S) in
-      omega (arith, h, l, length-map (least b i) step_at)
+      omega (arith, h, l, length-map (least b i) (step_at S))
 
   pub solved_least : (u n : ℕ) (b : Bindings) (cs : List Condition) → AreProper V n cs → Solves u b (equations cs) → (a : clocks.Assignment) → Meets a cs → (x : Name) → is_in x V ≡ true
       → length ((from_numbers (least b)).variable x) ≤ length (a.variable x)

@@ -1,12 +1,14 @@
 -- Conditions of clocks as equations of terms: variables and expressions by numbers, and steps by numbers.
-use Rattle.std.specs.Prelude.{◌≡◌, ℕ, ◌+◌, ◌≤◌, Bool, true, ◌&&◌, List, [], ◌∷◌, ◌++◌, length, map, position, unwrap_or, Option, Some, None, ⊤, All}
+use Rattle.std.specs.Prelude.{◌≡◌, ℕ, ◌+◌, ◌≤◌, Bool, true, ◌&&◌, List, [], ◌∷◌, ◌++◌, length, map, position, unwrap_or, slice_index_or, Option, Some, None, ⊤, All}
 use Rattle.std.specs.List.{list_any}
 use Rattle.hept_ast.specs.Texts.{Name, same}
 use Rattle.hept_ast.specs.Types.{same_tag}
 use Rattle.hept_ast.specs.Clocks as clocks
 use Rattle.hept_ast.specs.Clocks.{Base, Of, Inner, On, Condition}
 use Rattle.hept_ast.specs.declared.tree.ClockStep.{ClockStep}
-use Rattle.clock_calculus.specs.Unify.{IsWithin}
+use Rattle.hept_ast.specs.Scopes.{Clock}
+use Rattle.hept_ast.specs.declared.tree.Tag.TheVariants as tag
+use Rattle.clock_calculus.specs.Unify.{Bindings, IsWithin, base_path, least}
 use Rattle.clock_calculus.specs.Solving.{Equation}
 use Rattle.clock_calculus.specs.Written.{condition_of}
 use Rattle.clock_calculus.specs.declared.conditions.Step.{Step}
@@ -56,3 +58,18 @@ KnowsStep steps (On t tag x) = KnowsStep steps t × (list_any (same_step (record
 
 abbrev pub AreStepsOf : List ClockStep → List Condition → Type 0
 AreStepsOf steps cs = All (λ c. KnowsStep steps c.left × KnowsStep steps c.right) cs
+
+-- the step of a number, and the clock of a path of numbers
+abbrev pub step_at : List ClockStep → ℕ → ClockStep
+step_at steps i = slice_index_or steps i (record { tag = tag.Truth true; name = [] })
+
+abbrev pub clock_path : List ClockStep → List ℕ → Clock
+clock_path steps p = map (step_at steps) p
+
+-- the clock of a variable under bindings; a name without a number is on the base clock
+unfoldable pub solved_clock : List Name → List ClockStep → Bindings → Name → Clock
+solved_clock names steps b x = clock_path steps (base_path (least b) (position (same x) names))
+
+-- steps that are known stay known
+abbrev pub IsKnownToo : (old new : List ClockStep) → Type 0
+IsKnownToo old new = (s : ClockStep) → list_any (same_step s) old ≡ true → list_any (same_step s) new ≡ true

@@ -1,13 +1,14 @@
 //! Variables, expressions and steps by numbers.
-ghost use Rattle.std.specs.Prelude.{◌≡◌, IfOk, position};
+ghost use Rattle.std.specs.Prelude.{◌≡◌, All, IfOk, OnOk, map, position, true};
+ghost use Rattle.std.specs.List.{list_any};
 ghost use Rattle.hept_ast.specs.Texts.{same};
 ghost use Rattle.hept_ast.specs.Types.{same_tag};
 ghost use Rattle.hept_ast.specs.declared.tree.Tag.TheVariants as tag_;
-ghost use Rattle.clock_calculus.specs.Numbering.{encoded, names_of, same_step, step_number, step_of, steps_of};
+ghost use Rattle.clock_calculus.specs.Numbering.{IsKnownToo, KnowsStep, encoded, names_of, same_step, step_number, step_of, steps_of};
 ghost use Rattle.clock_calculus.specs.Unify.{IsWithin};
 ghost use Rattle.clock_calculus.specs.Written.{base_term, clock_term};
 
-use crate::conditions::{Base, Clock, Step};
+use crate::conditions::{Base, Clock, Condition, Step};
 use crate::scope::is_same;
 use crate::unify::Term;
 use hept_ast::{Memory, Name, Tag};
@@ -123,4 +124,55 @@ impl<'a> Numbers<'a> {
         }
         Ok(Term { base, steps })
     }
+}
+
+fn is_any_same(step: Step<'_>, steps: &[Step<'_>]) -> bool
+    ensures { result ≡ list_any (λ t. same_step (step_of step.entry) (step_of t)) steps.now }
+{
+    steps.iter().any(|other| is_same_step(step, *other))
+}
+
+#[tactic(auto, using(crate::proofs::Numbered::numbers))]
+fn is_known(step: Step<'_>, steps: &[Step<'_>]) -> bool
+    ensures { result ≡ list_any (same_step (step_of step.entry)) (map step_of steps.now) }
+{
+    is_any_same(step, steps)
+}
+
+/// Appends a step, if it is not there.
+fn note_step<'a>(steps: &mut Vec<Step<'a>>, step: Step<'a>) -> Result<(), Memory>
+    ensures kept { OnOk result (IsKnownToo (map step_of steps.old.items) (map step_of steps.new.items)) }
+    ensures known { OnOk result (list_any (same_step (step_of step.entry)) (map step_of steps.new.items) ≡ true) }
+{
+    if is_known(step, steps.as_slice()) {
+        return Ok(());
+    }
+    match steps.push(step) {
+        Ok(()) => Ok(()),
+        Err(_) => Err(Memory),
+    }
+}
+
+fn note_clock<'a>(steps: &mut Vec<Step<'a>>, clock: Clock<'a>) -> Result<(), Memory>
+    ensures kept { OnOk result (IsKnownToo (map step_of steps.old.items) (map step_of steps.new.items)) }
+    ensures known { OnOk result (KnowsStep (map step_of steps.new.items) (clock_term clock.entry)) }
+{
+    match clock.step {
+        Some(step) => note_step(steps, step),
+        None => Ok(()),
+    }
+}
+
+/// The steps of some conditions, each once.
+pub(crate) fn collect_steps<'a>(
+    alloc: Global,
+    conditions: &[Condition<'a>],
+) -> Result<Vec<Step<'a>>, Memory>
+    ensures { IfOk result (λ s. All (λ c. KnowsStep (map step_of s.items) (clock_term c.right)) conditions.now) }
+{
+    let mut steps = Vec::new(alloc);
+    for condition in conditions {
+        note_clock(&mut steps, condition.right)?;
+    }
+    Ok(steps)
 }
