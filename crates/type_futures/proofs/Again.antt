@@ -1,13 +1,14 @@
 -- Where equations stand, and which define what an earlier one does.
-use Rattle.std.proofs.Common.{add-one, zero, suc, ◌+◌, ◌<◌, length, take, get_or, map, ◌≡◌, ℕ, Bool, true, false, ◌||◌, List, [], ◌∷◌, ◌++◌, refl, sym, ◌∙◌, ap, arith, append_assoc, append-nil}
+use Rattle.std.proofs.Common.{add-one, zero, suc, ◌+◌, ◌<◌, length, take, get_or, map, ◌≡◌, ℕ, Bool, true, false, ◌||◌, not, List, [], ◌∷◌, ◌++◌, refl, sym, ◌∙◌, ap, arith, append_assoc, append-nil}
 use Rattle.std.specs.Prelude.{Option}
 use Rattle.std.specs.List.{list_any, flat_map}
 use Rattle.std.proofs.lemmas.List.Folds.{list_any-append}
 use Rattle.hept_ast.specs.Texts.{Name, same, is_in}
-use Rattle.hept_ast.specs.Faults.{Fault, Duplicate, fault, second_definitions}
+use Rattle.hept_ast.specs.Faults.{Fault, Duplicate, NotDefined, fault, second_definitions}
 use Rattle.hept_ast.specs.Limits.{earlier_of, earliest}
 use Rattle.hept_ast.specs.Parts.{place_of, equation_case, sets_of}
 use Rattle.hept_ast.specs.declared.name.Place.{Place}
+use Rattle.hept_ast.specs.declared.tree.Decl.{Decl}
 use Rattle.hept_ast.specs.declared.tree.Block.{Block}
 use Rattle.hept_ast.specs.declared.tree.Branch.{Branch}
 use Rattle.hept_ast.specs.declared.tree.State.{State}
@@ -15,7 +16,7 @@ use Rattle.hept_ast.specs.declared.tree.Expr.{Expr}
 use Rattle.hept_ast.specs.declared.tree.Equation as eq
 use Rattle.hept_ast.specs.declared.tree.Equation.{Equation}
 use Rattle.hept_ast.proofs.Unfolded.{static}
-use Rattle.type_futures.specs.Defined.{again_fault}
+use Rattle.type_futures.specs.Defined.{again_fault, undefined_fault}
 use Rattle.type_futures.proofs.Noting.{noted_both}
 
 pub place-Define : (p : Place) (left : List Name) (right : Expr) → place_of (eq.Define p left right) ≡ p.0
@@ -84,6 +85,22 @@ flat_take_sets [] i d h = absurd (omega arith)
 flat_take_sets (x ∷ xs) zero d h = append-nil (sets_of x)
 flat_take_sets (x ∷ xs) (suc i) d h = ap (λ t. sets_of x ++ t) (flat_take_sets xs i d (omega arith)) ∙ sym (append_assoc (sets_of x) _ _)
 
-pub sets_step : (xs : List Equation) (i : ℕ) (d e : Equation) (earlier later : List Name) → i < length xs → earlier ≡ flat_map sets_of (take i xs) → e ≡ get_or xs i d
-    → later ≡ earlier ++ sets_of e → later ≡ flat_map sets_of (take (i + 1) xs)
-sets_step xs i d e earlier later below h g n = rw (add-one, flat_take_sets xs i d below, ← g, ← h) n
+-- the same, by a set that has the names defined before
+pub again_met : (xs : List Equation) (i : ℕ) (d e : Equation) (met : List Name) (first o p : Option Fault)
+    → i < length xs → o ≡ earlier_of first (earliest (second_definitions [] (map equation_case (take i xs)))) → e ≡ get_or xs i d → ((x : Name) → is_in x met ≡ is_in x (flat_map sets_of (take i xs)))
+    → p ≡ earlier_of o (earliest (again_fault met (equation_case e)))
+    → p ≡ earlier_of first (earliest (second_definitions [] (map equation_case (take (i + 1) xs))))
+again_met xs i d e met first o p below h g s n =
+    again_step xs i d e (flat_map sets_of (take i xs)) first o p below h g refl
+    (n ∙ ap (λ b. earlier_of o (earliest (fault (place_of e) Duplicate b))) (any_same (λ x. is_in x met) (λ x. is_in x (flat_map sets_of (take i xs))) s (sets_of e)))
+
+pub met_step : (xs : List Equation) (i : ℕ) (d e : Equation) (x : Name) (met now : Bool) → i < length xs → met ≡ is_in x (flat_map sets_of (take i xs)) → e ≡ get_or xs i d
+    → now ≡ met || is_in x (sets_of e) → now ≡ is_in x (flat_map sets_of (take (i + 1) xs))
+met_step xs i d e x met now below h g n =
+    rw (add-one, flat_take_sets xs i d below, ← g) (n ∙ (ap (λ b. b || is_in x (sets_of e)) h ∙ sym (list_any-append (same x) (flat_map sets_of (take i xs)) (sets_of e))))
+
+-- what is undefined depends on which names are defined, and not on their order
+pub undefined_same : (met names : List Name) (ds : List Decl) → ((x : Name) → is_in x met ≡ is_in x names) → flat_map (undefined_fault met) ds ≡ flat_map (undefined_fault names) ds
+undefined_same met names [] h = refl
+undefined_same met names (d ∷ ds) h =
+    ap (λ b. fault d.place.0 NotDefined (not b) ++ flat_map (undefined_fault met) ds) (h d.name) ∙ ap (λ t. undefined_fault names d ++ t) (undefined_same met names ds h)

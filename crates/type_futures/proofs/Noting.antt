@@ -1,10 +1,18 @@
 -- How what was found goes on over lists of faults.
 use Rattle.std.proofs.Common.{add-one, zero, suc, ◌+◌, ◌<◌, ◌≤◌, length, take, get_or, map, ◌≡◌, ℕ, List, [], ◌∷◌, ◌++◌, refl, sym, ap, ◌∙◌, ap, arith, append_assoc, append-nil}
-use Rattle.std.specs.Prelude.{Option, Bool, ◌||◌}
+use Rattle.std.specs.Prelude.{Option, Bool, true, false, ◌||◌}
 use Rattle.std.specs.List.{flat_map, list_any}
 use Rattle.hept_ast.specs.Faults.{Fault}
 use Rattle.hept_ast.specs.Limits.{earlier_of, earliest}
 use Rattle.hept_ast.proofs.Earliest.{earlier_of-assoc, earliest-append}
+
+or_no : (a : Bool) → a || false ≡ a
+or_no true = refl
+or_no false = refl
+
+or_assoc : (a b c : Bool) → a || (b || c) ≡ (a || b) || c
+or_assoc true b c = refl
+or_assoc false b c = refl
 
 flat_take : {X Y : Type 0} (f : X → List Y) (xs : List X) (i : ℕ) (d : X) → i < length xs → flat_map f (take (suc i) xs) ≡ flat_map f (take i xs) ++ f (get_or xs i d)
 flat_take f [] i d h = absurd (omega arith)
@@ -18,6 +26,11 @@ flat_mapped f g (x ∷ xs) = ap (λ t. f (g x) ++ t) (flat_mapped f g xs)
 pub any_mapped : {X Y : Type 0} (p : Y → Bool) (f : X → Y) (xs : List X) → list_any p (map f xs) ≡ list_any (λ x. p (f x)) xs
 any_mapped p f [] = refl
 any_mapped p f (x ∷ xs) = ap (λ b. p (f x) || b) (any_mapped p f xs)
+
+pub any_take : {X : Type 0} (p : X → Bool) (xs : List X) (i : ℕ) (d : X) → i < length xs → list_any p (take (suc i) xs) ≡ list_any p (take i xs) || p (get_or xs i d)
+any_take p [] i d h = absurd (omega arith)
+any_take p (x ∷ xs) zero d h = or_no (p x)
+any_take p (x ∷ xs) (suc i) d h = ap (λ b. p x || b) (any_take p xs i d (omega arith)) ∙ or_assoc (p x) (list_any p (take i xs)) (p (get_or xs i d))
 
 -- the faults of one list, and then those of another
 pub noted_both : (fs gs : List Fault) (first o p : Option Fault) → o ≡ earlier_of first (earliest fs) → p ≡ earlier_of o (earliest gs) → p ≡ earlier_of first (earliest (fs ++ gs))

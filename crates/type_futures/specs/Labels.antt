@@ -21,9 +21,13 @@ node_label n = (n.place.0, n.name)
 abbrev pub state_label : State → ℕ × Name
 state_label q = (q.place.0, q.name)
 
+-- names that have one place
+abbrev pub names_at : ℕ → List Name → List (ℕ × Name)
+names_at p xs = map (λ x. (p, x)) xs
+
 -- the constructors of a type, at the place of its declaration
 abbrev pub constructor_labels : TypeDec → List (ℕ × Name)
-constructor_labels t = map (λ c. (t.place.0, c)) t.constructors
+constructor_labels t = names_at t.place.0 t.constructors
 
 -- second declarations of types, of constructors and of nodes
 abbrev pub second_declarations : Program → List Fault

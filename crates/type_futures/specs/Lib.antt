@@ -5,3 +5,15 @@ pub mod Gathered
 pub mod Chosen
 pub mod Typing
 pub mod Defined
+pub mod Walk
+pub mod Tags
+pub mod Lefts
+pub mod Demands
+pub mod NodeFaults
+pub mod Checked
+pub mod Graph
+pub mod Types
+pub mod Scene
+pub mod CallGraph
+pub mod Fits
+pub mod Judgings

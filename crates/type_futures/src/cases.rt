@@ -18,7 +18,7 @@ use crate::sets::{is_listed, push_block, push_branches, push_states};
 use hept_ast::{Block, Branch, Decl, Escape, Memory, Name, Place, State, Tag};
 use std::alloc::Global;
 
-fn is_truth(tag: &Tag, value: bool) -> bool
+pub(crate) fn is_truth(tag: &Tag, value: bool) -> bool
     ensures { result ≡ same_tag (tag_.Truth value) tag.now }
 {
     match tag {
@@ -27,7 +27,7 @@ fn is_truth(tag: &Tag, value: bool) -> bool
     }
 }
 
-fn is_constructor(tag: &Tag, name: &Name) -> bool
+pub(crate) fn is_constructor(tag: &Tag, name: &Name) -> bool
     ensures { result ≡ same_tag (tag_.Constructor name.now) tag.now }
 {
     match tag {
@@ -73,8 +73,7 @@ pub(crate) fn note_second_states(
 {
     let mut names = Vec::new(alloc);
     push_labels(&mut names, states)?;
-    note_seconds(found, names.as_slice());
-    Ok(())
+    note_seconds(alloc, found, names.as_slice())
 }
 
 fn is_gap(seen: &[&Decl], own: &[&Name], name: &Name) -> bool

@@ -1,30 +1,31 @@
 //! What the equations of a block define.
-ghost use Rattle.std.specs.Prelude.{◌≡◌, ◌++◌, IfOk, OnOk, [], map};
+ghost use Rattle.std.specs.Prelude.{◌≡◌, ◌++◌, ◌||◌, IfOk, OnOk, [], map};
 ghost use Rattle.std.specs.List.{flat_map, list_any};
 ghost use Rattle.std.specs.Option.{option_copied};
 ghost use Rattle.hept_ast.specs.Faults.{second_definitions};
 ghost use Rattle.hept_ast.specs.Limits.{earlier_of, earliest};
 ghost use Rattle.hept_ast.specs.Parts.{declaration, equation_case, place_of, sets_of};
-ghost use Rattle.hept_ast.specs.Texts.{is_in};
+ghost use Rattle.hept_ast.specs.Texts.{Name as NameText, is_in};
 ghost use Rattle.type_futures.specs.Defined.{again_fault, block_faults, last_in, left_faults_by, undefined_fault};
 
 use crate::found::{Found, Kind};
+use crate::name_set::{NameSet, has_name, insert_names, no_names};
 use crate::names::is_same;
-use crate::sets::{is_declared_in, is_listed, push_sets};
+use crate::sets::{is_declared_in, push_sets};
 use crate::typing::note_decls;
-use hept_ast::{Decl, Equation, Memory, Name, Place, TypeDec};
+use hept_ast::{Decl, Equation, Memory, Name, Node, Place, TypeDec};
 use std::alloc::Global;
 
-fn note_if_undefined(found: &mut Found, decl: &Decl, sets: &[&Name])
-    ensures { found.new ≡ earlier_of found.old (earliest (undefined_fault (map (λ r. r.now) sets.now) decl.now)) }
+fn note_if_undefined(found: &mut Found, decl: &Decl, sets: &NameSet<'_>)
+    ensures { found.new ≡ earlier_of found.old (earliest (undefined_fault (map (λ r. r.now) sets.now.keys) decl.now)) }
 {
-    let defined = is_listed(&decl.name, sets);
+    let defined = has_name(sets, &decl.name);
     found.note_if(decl.place, Kind::NotDefined, !defined);
 }
 
 #[tactic(auto, using(hept_ast::proofs::Earliest::earliest_of))]
-fn note_undefined(found: &mut Found, decls: &[Decl], sets: &[&Name])
-    ensures { found.new ≡ earlier_of found.old (earliest (flat_map (undefined_fault (map (λ r. r.now) sets.now)) decls.now)) }
+fn note_undefined(found: &mut Found, decls: &[Decl], sets: &NameSet<'_>)
+    ensures { found.new ≡ earlier_of found.old (earliest (flat_map (undefined_fault (map (λ r. r.now) sets.now.keys)) decls.now)) }
 {
     for decl in decls {
         note_if_undefined(found, decl, sets);
@@ -43,33 +44,33 @@ fn place_of(equation: &Equation) -> Place
     }
 }
 
-fn is_one_listed(names: &[&Name], others: &[&Name]) -> bool
-    ensures { result ≡ list_any (λ r. is_in r.now (map (λ r. r.now) others.now)) names.now }
+fn is_one_met(names: &[&Name], met: &NameSet<'_>) -> bool
+    ensures { result ≡ list_any (λ r. is_in r.now (map (λ r. r.now) met.now.keys)) names.now }
 {
-    names.iter().any(|name| is_listed(name, others))
+    names.iter().any(|name| has_name(met, name))
 }
 
-fn is_any_listed(names: &[&Name], others: &[&Name]) -> bool
-    ensures { result ≡ list_any (λ x. is_in x (map (λ r. r.now) others.now)) (map (λ r. r.now) names.now) }
+fn is_any_met(names: &[&Name], met: &NameSet<'_>) -> bool
+    ensures { result ≡ list_any (λ x. is_in x (map (λ r. r.now) met.now.keys)) (map (λ r. r.now) names.now) }
 {
-    is_one_listed(names, others)
+    is_one_met(names, met)
 }
 
-/// Notes an equation that defines what one before it does, and appends what it defines to those.
+/// Notes an equation that defines what one before it does, and adds what it defines to those.
 fn note_again<'a>(
     alloc: Global,
     found: &mut Found,
-    earlier: &mut Vec<&'a Name>,
+    earlier: &mut NameSet<'a>,
     equation: &'a Equation,
 ) -> Result<(), Memory>
-    ensures noted { OnOk result (found.new ≡ earlier_of found.old (earliest (again_fault (map (λ r. r.now) earlier.old.items) (equation_case equation.now)))) }
-    ensures earlier { OnOk result (map (λ r. r.now) earlier.new.items ≡ map (λ r. r.now) earlier.old.items ++ sets_of equation.now) }
+    ensures noted { OnOk result (found.new ≡ earlier_of found.old (earliest (again_fault (map (λ r. r.now) earlier.old.keys) (equation_case equation.now)))) }
+    ensures earlier { OnOk result ((x : NameText) → is_in x (map (λ r. r.now) earlier.new.keys) ≡ (is_in x (map (λ r. r.now) earlier.old.keys) || is_in x (sets_of equation.now))) }
 {
     let mut own = Vec::new(alloc);
     push_sets(alloc, &mut own, equation)?;
-    let again = is_any_listed(own.as_slice(), earlier.as_slice());
+    let again = is_any_met(own.as_slice(), earlier);
     found.note_if(place_of(equation), Kind::Duplicate, again);
-    push_sets(alloc, earlier, equation)
+    insert_names(earlier, own.as_slice())
 }
 
 /// Notes each equation of a block that defines what an earlier one does.
@@ -81,7 +82,7 @@ fn note_second_definitions(
 ) -> Result<(), Memory>
     ensures { OnOk result (found.new ≡ earlier_of found.old (earliest (second_definitions [] (map equation_case body.now)))) }
 {
-    let mut earlier = Vec::new(alloc);
+    let mut earlier = no_names(alloc);
     for equation in body {
         note_again(alloc, found, &mut earlier, equation)?;
     }
@@ -98,6 +99,16 @@ fn all_sets<'a>(alloc: Global, body: &'a [Equation]) -> Result<Vec<&'a Name>, Me
     Ok(sets)
 }
 
+/// What the equations of a block define.
+fn defined<'a>(alloc: Global, body: &'a [Equation]) -> Result<NameSet<'a>, Memory>
+    ensures { IfOk result (λ names. (x : NameText) → is_in x (map (λ r. r.now) names.keys) ≡ is_in x (flat_map sets_of body.now)) }
+{
+    let sets = all_sets(alloc, body)?;
+    let mut names = no_names(alloc);
+    insert_names(&mut names, sets.as_slice())?;
+    Ok(names)
+}
+
 /// Notes what is wrong with what a block declares, and with what its equations define of it.
 #[tactic(auto, using(hept_ast::proofs::Earliest::earliest_of))]
 pub(crate) fn note_block(
@@ -110,10 +121,30 @@ pub(crate) fn note_block(
     ensures { OnOk result (found.new ≡ earlier_of found.old (earliest (block_faults types.now decls.now body.now))) }
 {
     note_decls(found, types, decls);
-    let sets = all_sets(alloc, body)?;
-    note_undefined(found, decls, sets.as_slice());
+    let sets = defined(alloc, body)?;
+    note_undefined(found, decls, &sets);
     note_second_definitions(alloc, found, body)?;
     Ok(())
+}
+
+/// The same of a node's own block, which declares the outputs too.
+pub(crate) fn note_node_block(
+    alloc: Global,
+    found: &mut Found,
+    types: &[TypeDec],
+    node: &Node,
+) -> Result<(), Memory>
+    ensures { OnOk result (found.new ≡ earlier_of found.old (earliest (block_faults types.now (node.now.outputs ++ node.now.block.locals) node.now.block.body))) }
+{
+    let outputs = node.outputs.as_slice();
+    let locals = node.block.locals.as_slice();
+    let body = node.block.body.as_slice();
+    note_decls(found, types, outputs);
+    note_decls(found, types, locals);
+    let sets = defined(alloc, body)?;
+    note_undefined(found, outputs, &sets);
+    note_undefined(found, locals, &sets);
+    note_second_definitions(alloc, found, body)
 }
 
 /// The declaration of a name, among those that are seen.

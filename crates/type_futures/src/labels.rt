@@ -2,7 +2,7 @@
 ghost use Rattle.std.specs.Prelude.{◌≡◌, ◌++◌, ◌∷◌, [], map, OnOk};
 ghost use Rattle.std.specs.List.{flat_map};
 ghost use Rattle.hept_ast.specs.InnerParts.{decl_label};
-ghost use Rattle.type_futures.specs.Labels.{constructor_labels, label_of, node_label, state_label, type_label};
+ghost use Rattle.type_futures.specs.Labels.{constructor_labels, label_of, names_at, node_label, state_label, type_label};
 
 use crate::names::Label;
 use hept_ast::{Decl, Memory, Name, Node, Place, State, TypeDec};
@@ -62,16 +62,27 @@ pub(crate) fn push_states<'a>(
     Ok(())
 }
 
+/// Appends names that have one place.
+pub(crate) fn push_names<'a>(
+    labels: &mut Vec<Label<'a>>,
+    place: Place,
+    names: &'a [Name],
+) -> Result<(), Memory>
+    ensures { OnOk result (map label_of labels.new.items ≡ map label_of labels.old.items ++ names_at place.0 names.now) }
+{
+    for name in names {
+        push_label(labels, place, name)?;
+    }
+    Ok(())
+}
+
 pub(crate) fn push_constructors<'a>(
     labels: &mut Vec<Label<'a>>,
     declared: &'a TypeDec,
 ) -> Result<(), Memory>
     ensures { OnOk result (map label_of labels.new.items ≡ map label_of labels.old.items ++ constructor_labels declared.now) }
 {
-    for name in declared.constructors.as_slice() {
-        push_label(labels, declared.place, name)?;
-    }
-    Ok(())
+    push_names(labels, declared.place, declared.constructors.as_slice())
 }
 
 pub(crate) fn push_all_constructors<'a>(

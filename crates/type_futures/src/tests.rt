@@ -106,8 +106,9 @@ fn a_name_that_stands_twice_is_noted_at_the_second(rt: HostRuntime) -> Result<()
         },
     ];
     let mut found = Found::new();
-    note_seconds(&mut found, &labels);
+    let noted = note_seconds(alloc, &mut found, &labels).is_ok();
     let duplicate = is_duplicate_at(&found, 9);
+    assert!(rt; noted);
     assert!(rt; duplicate);
     Ok(())
 }

@@ -1,9 +1,10 @@
-use Rattle.std.proofs.Common.{◌++◌, [], ◌∙◌, ap, map, refl}
+use Rattle.std.proofs.Common.{◌++◌, [], map, refl}
 use Rattle.std.specs.List.{flat_map}
 use Rattle.hept_ast.specs.Faults.{second_definitions}
 use Rattle.hept_ast.specs.Parts.{equation_case, sets_of}
 use Rattle.type_futures.specs.Defined.{undefined_fault}
 use Rattle.type_futures.specs.Typing.{decl_faults_by}
+use Rattle.type_futures.proofs.Again.{undefined_same}
 use Rattle.type_futures.proofs.Noting.{noted_then}
 use Rattle.type_futures.proofs.definitions.note_block.Goals as goal
 
@@ -13,5 +14,5 @@ returns c =
     let declared = flat_map (decl_faults_by c.args.types.now) ds in
     let undefined = flat_map (undefined_fault (flat_map sets_of c.args.body.now)) ds in
     noted_then (declared ++ undefined) (second_definitions [] (map equation_case c.args.body.now)) _ _ _ _ refl
-    (noted_then declared undefined _ _ _ _ (ap (λ t. flat_map (undefined_fault t) ds) (ap (map (λ r. r.now)) c.as_slice.ensures.value ∙ c.in_ok-sets.ensures)) c.note_decls.ensures c.note_undefined.ensures)
+    (noted_then declared undefined _ _ _ _ (undefined_same (map (λ r. r.now) c.in_ok-sets.sets.keys) (flat_map sets_of c.args.body.now) ds c.in_ok-sets.ensures) c.note_decls.ensures c.note_undefined.ensures)
     c.in_ok-note_second_definitions.ensures

@@ -1,8 +1,10 @@
 use Rattle.hept_ast.specs.Texts.{same}
 use Rattle.type_futures.specs.Labels.{label_of}
-use Rattle.type_futures.proofs.Seconds.{seconds_step}
+use Rattle.type_futures.proofs.Seconds.{met_step, seconds_added}
 use Rattle.type_futures.proofs.names.note_seconds.Goals as goal
 
-pub loop-index-preserved : goal.loop-index-preserved
-loop-index-preserved c =
-    seconds_step same label_of _ _ c.index-labels-index.result c.index-labels-index.result c.is_label-again.result _ _ _ c.loop-index-test.true c.loop-index.invariant c.index-labels-index.is c.is_label-again.ensures c.note_if.ensures
+pub loop-label-preserved : goal.loop-label-preserved
+loop-label-preserved c = record {
+  noted = seconds_added same label_of _ _ c.label-item.result c.label-item.result _ _ _ _ _ c.loop-label-test.true c.loop-label.invariant.noted c.label-item.is (c.loop-label.invariant.met c.label-item.result.name.now) c.in_ok-added.ensures.added c.note_if.ensures;
+  met = λ x. met_step same label_of _ _ c.label-item.result c.label-item.result x _ _ c.loop-label-test.true c.label-item.is (c.loop-label.invariant.met x) (c.in_ok-added.ensures.names x);
+}

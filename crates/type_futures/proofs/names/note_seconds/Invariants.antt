@@ -1,9 +1,13 @@
 use Rattle.std.proofs.Common.{◌≡◌, [], map, take}
+use Rattle.std.specs.List.{list_any}
 use Rattle.hept_ast.specs.Faults.{seconds}
 use Rattle.hept_ast.specs.Limits.{earlier_of, earliest}
-use Rattle.hept_ast.specs.Texts.{same}
+use Rattle.hept_ast.specs.Texts.{Name, is_in, same}
 use Rattle.type_futures.specs.Labels.{label_of}
 use Rattle.type_futures.proofs.names.note_seconds.Given as goal
 
-abbrev pub invariant-loop-index : goal.invariant-loop-index
-invariant-loop-index l = l.found ≡ earlier_of l.initial.found (earliest (seconds same [] (map label_of (take l.index l.labels))))
+abbrev pub invariant-loop-label : goal.invariant-loop-label
+invariant-loop-label l = record {
+  noted : l.found ≡ earlier_of l.initial.found (earliest (seconds same [] (map label_of (take l.label-index l.labels))));
+  met : (x : Name) → is_in x (map (λ r. r.now) l.names.keys) ≡ list_any (λ y. same x (label_of y).1) (take l.label-index l.labels);
+}
