@@ -1,5 +1,5 @@
 -- How far the turns have come, and how they end.
-use Rattle.std.proofs.Common.{◌≡◌, ℕ, ◌+◌, List, [], ◌∷◌, ◌++◌, length, take, Option, Ok, Err, sym, refl, ap, ◌∙◌, subst, arith, length-append}
+use Rattle.std.proofs.Common.{◌≡◌, ℕ, ◌+◌, ◌<◌, ◌≤◌, List, [], ◌∷◌, ◌++◌, length, take, Option, Ok, Err, sym, refl, ap, ◌∙◌, subst, arith, length-append}
 use Rattle.std.specs.Bool.{⊤}
 use Rattle.std.specs.Io.KnownBytes.{Appends, Keeps, IsAtEnd}
 use Rattle.std.proofs.lemmas.Grind.{flat_map-append}
@@ -57,13 +57,13 @@ ends law p n coming held m rest now left later Why s k within why = record {
 }
 
 -- a turn that doesn't count ends the run
-pub stops : ErasedKeepsOutputs → (p : Program) (limit n : ℕ) (coming held : Option (List ℕ)) (m new : Machine) (rest now left later : Option (List ℕ)) (end : End) →
+pub stops : ErasedKeepsOutputs → (p : Program) (limit n : ℕ) (coming held : Option (List ℕ)) (m new : Machine) (rest now left later : Option (List ℕ)) (end : End) → n < limit →
     (s : SoFar p n coming held m rest now) → Turns p (n + 1) s.rows s.outs rest now (Err end) new left later → RunEnds p limit coming held left later end
-stops law p limit n coming held m new rest now left later Ended s h = (ends law p n coming held m rest now left later (λ n rest. IsAtEnd rest) s h.2 h.1 h.0)
-stops law p limit n coming held m new rest now left later (BadRow line fault) s h =
-    ends law p n coming held m rest now left later (λ k rest. (line ≡ k + 1) × NextIsBad (input_shape p) fault rest) s h.3 h.2 (h.0 ∙ ap (λ k. k + 1) (sym s.count), h.1)
-stops law p limit n coming held m new rest now left later ReadFault s h = (ends law p n coming held m rest now left later (λ n rest. ⊤) s h.1 h.0 tt)
-stops law p limit n coming held m new rest now left later WriteFault s (row, out, outputs, read, part) = record {
+stops law p limit n coming held m new rest now left later Ended b s h = ends law p n coming held m rest now left later (λ k rest. (k ≤ limit) × IsAtEnd rest) s h.2 h.1 (omega (arith, b, s.count), h.0)
+stops law p limit n coming held m new rest now left later (BadRow line fault) b s h =
+    ends law p n coming held m rest now left later (λ k rest. (k < limit) × (line ≡ k + 1) × NextIsBad (input_shape p) fault rest) s h.3 h.2 (omega (arith, b, s.count), h.0 ∙ ap (λ k. k + 1) (sym s.count), h.1)
+stops law p limit n coming held m new rest now left later ReadFault b s h = (ends law p n coming held m rest now left later (λ n rest. ⊤) s h.1 h.0 tt)
+stops law p limit n coming held m new rest now left later WriteFault b s (row, out, outputs, read, part) = record {
   rows = s.rows;
   outs = s.outs;
   row = row;
@@ -76,16 +76,16 @@ stops law p limit n coming held m new rest now left later WriteFault s (row, out
   written = appends_both held now later (output_text (output_shape p) s.outs) (take part.0 (row_line (output_shape p) out)) s.written part.2;
   within = left_of_coming new.reader.pending left;
 }
-stops law p limit n coming held m new rest now left later (Refused refusal) s h = absurd h
-stops law p limit n coming held m new rest now left later Usage s h = absurd h
-stops law p limit n coming held m new rest now left later (File fault) s h = absurd h
-stops law p limit n coming held m new rest now left later (Limit rows) s h = absurd h
-stops law p limit n coming held m new rest now left later Memory s h = absurd h
+stops law p limit n coming held m new rest now left later (Refused refusal) b s h = absurd h
+stops law p limit n coming held m new rest now left later Usage b s h = absurd h
+stops law p limit n coming held m new rest now left later (File fault) b s h = absurd h
+stops law p limit n coming held m new rest now left later (Limit rows) b s h = absurd h
+stops law p limit n coming held m new rest now left later Memory b s h = absurd h
 
 -- the limit's rows counted
 pub at_limit : ErasedKeepsOutputs → (p : Program) (limit n : ℕ) (coming held : Option (List ℕ)) (m : Machine) (rest now left : Option (List ℕ)) (end : End) →
     (s : SoFar p n coming held m rest now) → n ≡ limit → EndsHere limit rest end left → RunEnds p limit coming held left now end
-at_limit law p limit n coming held m rest now left Ended s e h = (ends law p n coming held m rest now left now (λ n rest. IsAtEnd rest) s (keeps_same now) h.1 h.0)
+at_limit law p limit n coming held m rest now left Ended s e h = ends law p n coming held m rest now left now (λ k rest. (k ≤ limit) × IsAtEnd rest) s (keeps_same now) h.1 (omega (arith, e, s.count), h.0)
 at_limit law p limit n coming held m rest now left (Limit rows) s e h = (h.0, ends law p n coming held m rest now left now (λ k rest. (k ≡ limit) × HasNext rest) s (keeps_same now) h.2 (s.count ∙ e, h.1))
 at_limit law p limit n coming held m rest now left ReadFault s e h = (ends law p n coming held m rest now left now (λ n rest. ⊤) s (keeps_same now) h tt)
 at_limit law p limit n coming held m rest now left (BadRow line fault) s e h = absurd h

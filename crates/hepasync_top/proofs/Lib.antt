@@ -6,6 +6,8 @@ pub mod Body
 pub mod AtInstant
 pub mod AtStart
 pub mod Refusing
+pub mod Lines
+pub mod Completeness
 mod RowByRow
 pub mod Cells
 pub mod Ends

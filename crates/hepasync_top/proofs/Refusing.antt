@@ -72,7 +72,7 @@ served_exactly text program none one served r (inr (p, spelled, why)) =
 
 -- ---- files
 
-name_is : (words : List (List ℕ)) (name other : List ℕ) → file_of words ≡ Some name → file_of words ≡ Some other → name ≡ other
+pub name_is : (words : List (List ℕ)) (name other : List ℕ) → file_of words ≡ Some name → file_of words ≡ Some other → name ≡ other
 name_is words name other h k = cc
 
 bytes_are : (files : Files) (name other text bytes : List ℕ) → name ≡ other → HasFile files name text → HasFile files other bytes → bytes ≡ text

@@ -1,6 +1,6 @@
 -- What the statuses of a run say.
 use Rattle.hepasync_top.specs.Words.{file_of}
-use Rattle.std.proofs.Common.{◌≡◌, ℕ, ◌+◌, ◌≤◌, ⊎_elim, List, [], ◌∷◌, ◌++◌, length, map, Option, Some, None, Ok, length-append, refl, ap, ◌∙◌, subst, arith}
+use Rattle.std.proofs.Common.{◌<◌, ◌≡◌, ℕ, ◌+◌, ◌≤◌, ⊎_elim, List, [], ◌∷◌, ◌++◌, length, map, Option, Some, None, Ok, length-append, refl, ap, ◌∙◌, subst, arith}
 use Rattle.std.specs.Bool.{⊤}
 use Rattle.std.specs.Prelude.{IfSome, IsSomeAnd}
 use Rattle.std.proofs.lemmas.List.{append-nil}
@@ -116,17 +116,17 @@ told files words p bytes before (Some rest) (Some after) rows outs none file rea
   written = written;
 }
 
-where_told : (files : Option Files) (words : List (List ℕ)) (p : Program) (trace held left now : Option (List ℕ)) → NoneOfNone → IfSome files (λ files. IsProgramFile files words p) →
-    EndsAfter p trace held left now (λ n rest. IsAtEnd rest) → WrittenWhereTold files words trace held now
-where_told None words p trace held left now none file h = tt
-where_told (Some files) words p None held left now none file h = tt
-where_told (Some files) words p (Some bytes) None left now none file h = tt
-where_told (Some files) words p (Some bytes) (Some before) left now none file h = told files words p bytes before h.rest now h.rows h.outs none file h.counted.read h.counted.outputs h.counted.written h.why
+where_told : (limit : ℕ) (files : Option Files) (words : List (List ℕ)) (p : Program) (trace held left now : Option (List ℕ)) → NoneOfNone → IfSome files (λ files. IsProgramFile files words p) →
+    EndsAfter p trace held left now (λ n rest. (n ≤ limit) × IsAtEnd rest) → WrittenWhereTold files words trace held now
+where_told limit None words p trace held left now none file h = tt
+where_told limit (Some files) words p None held left now none file h = tt
+where_told limit (Some files) words p (Some bytes) None left now none file h = tt
+where_told limit (Some files) words p (Some bytes) (Some before) left now none file h = told files words p bytes before h.rest now h.rows h.outs none file h.counted.read h.counted.outputs h.counted.written h.why.1
 
 pub written_at_end : (limit : ℕ) (files : Option Files) (words : List (List ℕ)) (old new : ℕ) (trace held left now : Option (List ℕ)) (end : End) → NoneOfNone →
     Ends limit files words old new trace held left now end → end ≡ Ended → WrittenWhereTold files words trace held now
 written_at_end limit files words old new trace held left now end none h e = ⊎_elim
-    (λ r. where_told files words r.program trace held left now none r.file (subst (RunEnds r.program limit trace held left now) e r.ends))
+    (λ r. where_told limit files words r.program trace held left now none r.file (subst (RunEnds r.program limit trace held left now) e r.ends))
     (λ b. absurd (subst (λ (e : End). StopsFor e files words old new) e b.why)) h
 
 empty : (bytes : List ℕ) → length bytes ≤ 0 → bytes ≡ []
@@ -142,7 +142,7 @@ none_left inputs (Some bytes) (Some rest) (Some left) rows read within e = ap So
 pub none_left_at_end : (limit : ℕ) (files : Option Files) (words : List (List ℕ)) (old new : ℕ) (trace held left now : Option (List ℕ)) (end : End) →
     Ends limit files words old new trace held left now end → end ≡ Ended → HasNoneLeft trace left
 none_left_at_end limit files words old new trace held left now end h e = ⊎_elim
-    (λ r. let a = subst (RunEnds r.program limit trace held left now) e r.ends in none_left (input_shape r.program) trace a.rest left a.rows a.counted.read a.within a.why)
+    (λ r. let a = subst (RunEnds r.program limit trace held left now) e r.ends in none_left (input_shape r.program) trace a.rest left a.rows a.counted.read a.within a.why.1)
     (λ b. absurd (subst (λ (e : End). StopsFor e files words old new) e b.why)) h
 
 -- ---- nothing is written before some of the trace is read
@@ -180,8 +180,8 @@ after_part p (Some bytes) (Some before) left now h = λ e.
     absurd (omega (arith, length-append h.rows (h.row ∷ [])))
 
 after_run : (p : Program) (limit : ℕ) (trace held left now : Option (List ℕ)) (end : End) → RunEnds p limit trace held left now end → WritesOnlyAfterReading trace left held now
-after_run p limit trace held left now Ended h = after_rows p trace held left now (λ n rest. IsAtEnd rest) h
-after_run p limit trace held left now (BadRow line fault) h = after_rows p trace held left now (λ n rest. (line ≡ n + 1) × NextIsBad (input_shape p) fault rest) h
+after_run p limit trace held left now Ended h = after_rows p trace held left now (λ n rest. (n ≤ limit) × IsAtEnd rest) h
+after_run p limit trace held left now (BadRow line fault) h = after_rows p trace held left now (λ n rest. (n < limit) × (line ≡ n + 1) × NextIsBad (input_shape p) fault rest) h
 after_run p limit trace held left now (Limit rows) h = after_rows p trace held left now (λ n rest. (n ≡ limit) × HasNext rest) h.1
 after_run p limit trace held left now ReadFault h = after_rows p trace held left now (λ n rest. ⊤) h
 after_run p limit trace held left now WriteFault h = after_part p trace held left now h

@@ -5,6 +5,7 @@ pub mod Machine
 pub mod Outputs
 pub mod Run
 pub mod Turns
+pub mod LineEnds
 pub mod Words
 pub mod Served
 pub mod Serving

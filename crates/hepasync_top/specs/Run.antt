@@ -1,5 +1,5 @@
 -- What a run does.
-use Rattle.std.specs.Prelude.{◌≡◌, ℕ, List, [], ◌++◌, map, Option, Some, IfSome, IsSomeAnd, Ok, ◌⊎◌}
+use Rattle.std.specs.Prelude.{◌≡◌, ℕ, ◌≤◌, length, List, [], ◌++◌, map, Option, Some, IfSome, IsSomeAnd, Ok, ◌⊎◌}
 use Rattle.hept_ast.specs.declared.tree.Program.{Program}
 use Rattle.hepasync_top.specs.Served.{IsServed}
 use Rattle.std.specs.Io.KnownBytes.{Appends}
@@ -16,6 +16,7 @@ use Rattle.trace_io.specs.RowText.{row_text}
 use Rattle.trace_io.specs.OutputText.{output_text, AppendsPart}
 use Rattle.hepasync_top.specs.Outputs.{ErasedOutputs, input_shape, output_shape}
 use Rattle.ept_reader.specs.Spelling.{IsProgramText}
+use Rattle.hepasync_top.specs.LineEnds.{FollowsTrace, ReadsWhole}
 use Rattle.hepasync_top.specs.Turns.{RunEnds}
 
 -- The words name a file, and its bytes are the text of a program that is served.
@@ -48,6 +49,7 @@ pub record Runs (limit : ℕ) (files : Option Files) (words : List (List ℕ)) (
   pub program : Program
   pub file : IfSome files (λ files. IsProgramFile files words program)
   pub ends : RunEnds program limit trace held left now end
+  pub follows : FollowsTrace (input_shape program) limit trace end
 
 -- The run ends before the trace is first read: nothing is read of it, and nothing written.
 pub record Stops (files : Option Files) (words : List (List ℕ)) (old new : ℕ) (trace held left now : Option (List ℕ)) (end : End) : Type 0 where
@@ -68,6 +70,18 @@ RefusesExactly files words end = IfSome files (λ files. (refusal : Refusal) →
 abbrev pub RunsServed : (limit : ℕ) → Option Files → (words : List (List ℕ)) → (trace held left now : Option (List ℕ)) → End → Type 0
 RunsServed limit files words trace held left now end =
     IfSome files (λ files. (p : Program) → IsProgramFile files words p → RunEnds p limit trace held left now end ⊎ IsUnforeseen end)
+
+-- The words name a file of a program that is served, with at most 1,048,576 bytes, and each line of the trace spells a row.
+pub record IsWhole (limit : ℕ) (files : Files) (words : List (List ℕ)) (trace : List ℕ) : Type 0 where
+  pub program : Program
+  pub file : IsProgramFile files words program
+  pub few : length file.bytes ≤ 1048576
+  pub read : ReadsWhole (input_shape program) limit trace
+
+-- Where all this is told and so, the run ends with status 0, unless memory runs out or a count of faults rose.
+abbrev pub EndsWhole : (limit : ℕ) → Option Files → (words : List (List ℕ)) → (trace : Option (List ℕ)) → (status : ℕ) → (Failed : Type 0) → Type 0
+EndsWhole limit files words trace status Failed =
+    IfSome files (λ files. IfSome trace (λ trace. IsWhole limit files words trace → (status ≡ 0) ⊎ ((status ≡ 8) ⊎ Failed)))
 
 -- A sink grew by the line of an end, or where its count of faults rose by a part of it.
 abbrev pub Says : End → (held now : Option (List ℕ)) → (old new : ℕ) → Type 0

@@ -88,8 +88,8 @@ pub record EndsInPart (p : Program) (coming held left now : Option (List ℕ)) :
 
 -- How a run over a trace ends, where at most `limit` rows may count. Lines count from 1.
 abbrev pub RunEnds : Program → (limit : ℕ) → (coming held left now : Option (List ℕ)) → End → Type 0
-RunEnds p limit coming held left now Ended = EndsAfter p coming held left now (λ n rest. IsAtEnd rest)
-RunEnds p limit coming held left now (Bad_row line fault) = EndsAfter p coming held left now (λ n rest. (line ≡ n + 1) × NextIsBad (input_shape p) fault rest)
+RunEnds p limit coming held left now Ended = EndsAfter p coming held left now (λ n rest. (n ≤ limit) × IsAtEnd rest)
+RunEnds p limit coming held left now (Bad_row line fault) = EndsAfter p coming held left now (λ n rest. (n < limit) × (line ≡ n + 1) × NextIsBad (input_shape p) fault rest)
 RunEnds p limit coming held left now (Limit rows) = (rows ≡ limit) × EndsAfter p coming held left now (λ n rest. (n ≡ limit) × HasNext rest)
 RunEnds p limit coming held left now ReadFault = EndsAfter p coming held left now (λ n rest. ⊤)
 RunEnds p limit coming held left now WriteFault = EndsInPart p coming held left now

@@ -8,7 +8,7 @@ ghost use Rattle.ept_reader.specs.Spelling.{IsProgramText};
 ghost use Rattle.hepasync_top.specs.Served.{IsServed};
 ghost use Rattle.hepasync_top.specs.Machine.{HasDone, IsFresh};
 ghost use Rattle.hepasync_top.specs.Stops.{FileIsNotRead, FileIsRefused, IsEmpty, IsRefusedProgram, IsRefusedText, IsUnforeseen, StopsFor, end_of};
-ghost use Rattle.hepasync_top.specs.Run.{ComesTo, Ends, HasNoneLeft, IsProgramFile, RefusesExactly, RunsServed, WritesOnlyAfterReading, WrittenWhereTold};
+ghost use Rattle.hepasync_top.specs.Run.{ComesTo, Ends, EndsWhole, HasNoneLeft, IsProgramFile, RefusesExactly, RunsServed, WritesOnlyAfterReading, WrittenWhereTold};
 ghost use Rattle.hepasync_top.specs.Words.{file_of};
 
 use crate::machine::Machine;
@@ -132,6 +132,7 @@ fn run_to_end<F: Store, S: Source, K: Sink>(
 {
     match prepare(alloc, words, files) {
         Ok(machine) => {
+            line_laws();
             let mut machine = machine;
             machine.turns(LIMIT, trace, out)
         }
@@ -167,6 +168,10 @@ pub fn run<R, F: Store, S: Source, K: Sink, E: Sink, G: Gate>(
     ensures write_fault { result.status ≡ 7 → Rose (K.faults out.old) (K.faults out.new) }
     ensures memory { result.status ≡ 8 → (S.left trace.new ≡ S.left trace.old) × (K.held out.new ≡ K.held out.old) }
     ensures quiet { result.status ≡ 0 → err.new ≡ err.old }
+
+    // A program that is served runs to the end of a trace whose lines all spell rows.
+    ensures complete { EndsWhole 4294967294 (F.files files.old) (map string_bytes words.now) (S.left trace.old) result.status
+        (Rose (F.faults files.old) (F.faults files.new) ⊎ (Rose (S.faults trace.old) (S.faults trace.new) ⊎ Rose (K.faults out.old) (K.faults out.new))) }
 
     // No count of faults falls.
     ensures files { F.faults files.old ≤ F.faults files.new }

@@ -1,6 +1,7 @@
 use Rattle.std.proofs.Common.{sym, ◌∙◌}
 use Rattle.hepasync_top.proofs.Statuses.{memory_before, written_at_end, none_left_at_end, untouched, ended_at}
 use Rattle.hepasync_top.proofs.Refusing.{says_line}
+use Rattle.hepasync_top.proofs.Completeness.{ends_whole}
 use Rattle.hepasync_top.proofs.top.run.Goals as goal
 
 pub returns-clause-written : goal.returns-clause-written
@@ -24,3 +25,6 @@ returns-clause-untouched g c = untouched _ _ _ _ _ _ _ _ _ _ c.run_to_end-end.en
 
 pub returns-clause-memory : goal.returns-clause-memory
 returns-clause-memory g c = λ e. memory_before _ _ _ _ _ _ _ _ _ _ c.run_to_end-end.ensures.ends (sym c.status.ensures ∙ e)
+
+pub returns-clause-complete : goal.returns-clause-complete
+returns-clause-complete g c = ends_whole c.line_laws.ensures.none _ _ _ _ _ _ _ _ _ _ _ _ _ c.status.ensures c.run_to_end-end.ensures.ends c.run_to_end-end.ensures.serves c.run_to_end-end.ensures.read_fault c.run_to_end-end.ensures.write_fault

@@ -3,6 +3,7 @@ use Rattle.hept_ast.specs.declared.tree.Program.{Program}
 use Rattle.hepasync_top.specs.Machine.{HasDone}
 use Rattle.hepasync_top.specs.Turns.{RunEnds}
 use Rattle.hepasync_top.proofs.Statuses.{at_start}
+use Rattle.hepasync_top.proofs.Lines.{follows_trace}
 use Rattle.hepasync_top.proofs.Refusing.{none_refused, runs_served, stops_served}
 use Rattle.hepasync_top.proofs.top.run_to_end.Goals as goal
 
@@ -12,6 +13,9 @@ returns-in-Ok-clause-ends g c = let r = c.in-Ok.ensures.ready in inl (record {
   file = r.file;
   ends = subst (λ (coming : Option (List ℕ)). RunEnds r.program 4294967294 coming (g.K.Sink.held c.args.out.now) (g.S.Source.left c.turns.new.trace) (g.K.Sink.held c.turns.new.out) c.turns.result)
       (at_start c.in-Ok.machine.reader (g.S.Source.left c.args.trace.now) r.pending) (c.turns.ensures.ends r.program r.done);
+  follows = follows_trace c.line_laws.ensures.none r.program 4294967294 (g.S.Source.left c.args.trace.now) (g.K.Sink.held c.args.out.now) (g.S.Source.left c.turns.new.trace) (g.K.Sink.held c.turns.new.out) c.turns.result
+      (subst (λ (coming : Option (List ℕ)). RunEnds r.program 4294967294 coming (g.K.Sink.held c.args.out.now) (g.S.Source.left c.turns.new.trace) (g.K.Sink.held c.turns.new.out) c.turns.result)
+      (at_start c.in-Ok.machine.reader (g.S.Source.left c.args.trace.now) r.pending) (c.turns.ensures.ends r.program r.done));
 })
 
 pub returns-in-Ok-clause-refuses : goal.returns-in-Ok-clause-refuses
