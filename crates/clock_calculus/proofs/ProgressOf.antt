@@ -4,20 +4,22 @@ use Rattle.std.specs.Prelude.{Option, All, filter, is_some, position, slice_get}
 use Rattle.std.specs.List.{list_any}
 use Rattle.std.proofs.lemmas.Bool.{cases_lt}
 use Rattle.std.proofs.lemmas.Bool.Decides.{nat_tests}
-use Rattle.std.proofs.lemmas.List.{get_or-take, length-take}
+use Rattle.std.proofs.lemmas.List.{get_or-take, length-take, take_all}
 use Rattle.std.proofs.lemmas.List.Elements.{All-more}
-use Rattle.std.proofs.lemmas.Option.{slice_get-get_or, slice_get_within, same_Some}
+use Rattle.std.proofs.lemmas.Option.{slice_get-get_or, slice_get_past, slice_get_within, same_Some}
 use mathlib.Core.Path.{fun_ext}
 use Rattle.hept_ast.specs.Texts.{Name, is_in, names, same}
 use Rattle.hept_ast.specs.Parts.{variables}
 use Rattle.hept_ast.specs.Scopes.{Clock}
 use Rattle.hept_ast.specs.Clocks.{Assignment, AreLeastClocks, CanMeet, Condition, Meets, before, conditions, up_to}
 use Rattle.hept_ast.specs.ClockMaps.{ClockMap, clock_in, path_in, steps_or_none}
-use Rattle.hept_ast.specs.Stages.{declares_at, declares_in}
+use Rattle.hept_ast.specs.Stages.{HasLeastClocks, declares_at, declares_in}
 use Rattle.hept_ast.specs.declared.name.Place.{Place}
 use Rattle.hept_ast.specs.declared.tree.ClockPath.{ClockPath}
 use Rattle.hept_ast.specs.declared.tree.ClockStep.{ClockStep}
 use Rattle.hept_ast.specs.declared.tree.Node.{Node}
+use Rattle.hept_ast.specs.declared.tree.Program.{Program}
+use Rattle.clock_calculus.specs.Checked.{HasNoClock}
 use Rattle.clock_calculus.specs.Filled.{IsFilled}
 use Rattle.clock_calculus.specs.Noted.{AreClockedUpTo, IsClashIn, IsNoClockIn, IsNoted, IsNotedAs, IsProgress, IsSolvedNode, SolutionOf, earlier_place}
 use Rattle.clock_calculus.specs.Numbering.{clock_path, names_of, solved_clock, steps_of}
@@ -194,3 +196,25 @@ no_nodes k = grind (arith, nat_tests)
 
 pub progress_none : (nodes : List Node) (m : ClockMap) → m ≡ [] → IsProgress nodes 0 m None
 progress_none nodes m e = subst (λ m. IsProgress nodes 0 m None) (sym e) (record { least = λ k n h g. absurd (omega arith); exact = λ k x. ap (λ t. if t then declares_at nodes k x else false) (sym (no_nodes k)) })
+
+nodes_tested : (nodes : List Node) (k : ℕ) (x : Name) → (k < length nodes) ⊎ (length nodes ≤ k) → (if nat_lt k (length nodes) then declares_at nodes k x else false) ≡ declares_at nodes k x
+nodes_tested nodes k x (inl h) = let e : nat_lt k (length nodes) ≡ true = grind (arith, nat_tests) in ap (λ t. if t then declares_at nodes k x else false) e
+nodes_tested nodes k x (inr h) =
+    let e : nat_lt k (length nodes) ≡ false = grind (arith, nat_tests) in
+    ap (λ t. if t then declares_at nodes k x else false) e ∙ ap (λ o. declares_in o x) (sym (slice_get_past nodes k h))
+
+-- all nodes have their clocks
+pub all_clocked : (program : Program) (m : ClockMap) → IsProgress program.nodes (length program.nodes) m None → HasLeastClocks program m
+all_clocked program m c = record {
+  least = λ k n e. c.least k n (slice_get_within program.nodes k n e) e;
+  exact = λ k x. c.exact k x ∙ nodes_tested program.nodes k x (cases_lt k (length program.nodes));
+}
+
+-- or there is a place
+pub none_clocked : (program : Program) (m : ClockMap) (p : Place) → IsProgress program.nodes (length program.nodes) m (Some p) → HasNoClock program p.0
+none_clocked program m p c =
+    let all : IsNoClockIn program.nodes p.0 = subst (λ ns. IsNoClockIn ns p.0) (take_all (length program.nodes) program.nodes (omega arith)) c in
+    record {
+      none = λ h. all.with_it (λ k d l. let a = h k d l in (record { variable = a.0; expression = a.1.0 }, some _ (λ e. nat_le e.place p.0) (conditions (slice_index_or program.nodes k d)) a.1.1));
+      place = record { before_it = all.before_it; with_it = all.with_it };
+    }

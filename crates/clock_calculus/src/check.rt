@@ -1,6 +1,7 @@
 //! The clocks of a program.
 ghost use Rattle.std.specs.Prelude.{◌≡◌, [], IfErr, IfOk, length};
 ghost use Rattle.clock_calculus.specs.Noted.{IsNoted, IsProgress, earlier_place};
+ghost use Rattle.clock_calculus.specs.Checked.{IsClockFault};
 ghost use Rattle.hept_ast.specs.Stages.{HasLeastClocks};
 
 use crate::filling::set_clocks;
@@ -74,4 +75,18 @@ fn note_nodes(alloc: Global, clocks: &mut Clocks, nodes: &[Node]) -> Result<Opti
         first = note_node(alloc, clocks, first, id, solved)?;
     }
     Ok(first)
+}
+
+/// The clocks of a program: the least ones that meet the conditions of its text, by the rules of Heptagon's clocks.
+pub fn check_clocks(alloc: Global, typed: Typed) -> Result<Clocked, ClockFault>
+    ensures program { IfOk result (λ c. c.program ≡ typed) }
+    ensures clocks { IfOk result (λ c. HasLeastClocks typed c.clocks) }
+    ensures fault { IfErr result (IsClockFault typed) }
+{
+    let mut clocks = Clocks::new(alloc);
+    match note_nodes(alloc, &mut clocks, typed.program().nodes.as_slice()) {
+        Ok(None) => Ok(Clocked::of(typed, clocks)),
+        Ok(Some(at)) => Err(ClockFault::NoClock { at }),
+        Err(Memory) => Err(ClockFault::Memory),
+    }
 }
