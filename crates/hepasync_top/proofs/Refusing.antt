@@ -1,8 +1,18 @@
 -- Texts and programs that are refused are refused so.
-use Rattle.std.proofs.Common.{◌≡◌, ◌⊎◌, inl, inr, ⊎_elim, ℕ, Bool, false, List, Option, Some, None, Result, Ok, Err, sym, ap, subst, ◌∙◌}
-use Rattle.std.specs.Prelude.{IfSome, OnErr, IsTrue, ◌↔◌}
+use Rattle.std.proofs.Common.{◌≡◌, ◌⊎◌, inl, inr, ⊎_elim, ℕ, Bool, false, List, Option, Some, None, Result, Ok, Err, sym, ap, subst, ◌∙◌, [], ◌∷◌, refl, arith}
+use Rattle.std.specs.Prelude.{IfSome, IfOk, IfErr, OnOk, OnErr, MatchResult, IsTrue, ◌↔◌}
 use Rattle.ept_reader.proofs.Bools.{true≢false}
 use Rattle.hept_ast.specs.declared.tree.Program.{Program}
+use Rattle.hept_ast.specs.declared.tree.Node.{Node}
+use Rattle.hept_ast.specs.Faults.{Fault}
+use Rattle.hept_ast.specs.Limits.{IsFirst, all_faults}
+use Rattle.type_futures.specs.declared.check.TypeFault.{TypeFault}
+use Rattle.type_futures.specs.declared.check.TypeFault.TheVariants as typing
+use Rattle.type_futures.specs.declared.choice.TopFault.{TopFault}
+use Rattle.type_futures.specs.declared.choice.TopFault.TheVariants as choosing
+use Rattle.type_futures.specs.Checked.{IsTypeFault}
+use Rattle.type_futures.specs.Chosen.{IsChosen, IsTopFault, chosen, future_at}
+use Rattle.std.specs.Option.{option_and_then}
 use Rattle.ept_reader.specs.declared.reader.ReadFault.{ReadFault}
 use Rattle.ept_reader.specs.declared.reader.ReadFault.TheVariants as reading
 use Rattle.ept_reader.specs.Spelling.{IsProgramText, IsRefusalOf}
@@ -14,21 +24,70 @@ use Rattle.hept_io.specs.Outside.{Files, HasFile, Rose}
 use Rattle.hept_io.specs.declared.outside.Failed.{Failed}
 use Rattle.hepasync_top.specs.Words.{file_of}
 use Rattle.hepasync_top.specs.Turns.{RunEnds}
-use Rattle.hepasync_top.specs.Run.{IsProgramFile, RefusesExactly, RunsServed, Says}
+use Rattle.hepasync_top.specs.Run.{IsProgramFile, RefusesAll, RefusesExactly, RunsServed, Says}
 use Rattle.hepasync_top.specs.Served.{IsServed}
-use Rattle.hepasync_top.specs.Stops.{IsRefusedProgram, FileIsRefused, IsRefusedText, IsUnforeseen, end_of}
+use Rattle.hepasync_top.specs.Stops.{FileIsRefused, FileIsUnread, HasMain, IsRefused, IsRefusedProgram, by_types, by_choice, by_form, IsRefusedText, IsRunnable, IsUnforeseen, IsUnreadText, end_of_choice, end_of_text, end_of_types}
 
 -- ---- programs
 
-one_refusal : (p : Program) (r s : Refusal) → IsRefusedProgram p r → IsRefusedProgram p s → r ≡ s
-one_refusal p r s (inl a) (inl b) = a.1 ∙ sym b.1
-one_refusal p r s (inl a) (inr b) = absurd (b.0 a.0)
-one_refusal p r s (inr a) (inl b) = absurd (a.0 b.0)
-one_refusal p r s (inr a) (inr b) = a.2 ∙ sym b.2
+-- a program that was read ends so
+abbrev pub StopsAt : Program → End → Type 0
+StopsAt program e = (e ≡ Memory) ⊎ ((r : Refusal) × (e ≡ Refused r) × IsRefusedProgram program r)
 
-served_not_refused : (p : Program) (r : Refusal) → IsServed p → IsRefusedProgram p r → ⊥
-served_not_refused p r served (inl a) = let e = served.one in let f = a.0.no_nodes in absurd cc
-served_not_refused p r served (inr a) = a.1 served
+-- the same, where none of its faults stands
+abbrev pub StopsClean : Program → End → Type 0
+StopsClean program e = (e ≡ Memory) ⊎ ((r : Refusal) × (e ≡ Refused r) × (all_faults program ≡ [] → IsRefusedProgram program r))
+
+no_first : (fs : List Fault) (f : Fault) → fs ≡ [] → IsFirst fs f → ⊥
+no_first [] f e h = absurd (omega (arith, h.stands.1))
+no_first (x ∷ fs) f e h = absurd cc
+
+no_fault : (p : Program) (t : TypeFault) (r : Refusal) → all_faults p ≡ [] → IsTypeFault p t → end_of_types t ≡ Refused r → ⊥
+no_fault p (typing.UnknownName at) r clean h e = no_first (all_faults p) _ clean h
+no_fault p (typing.Duplicate at) r clean h e = no_first (all_faults p) _ clean h
+no_fault p (typing.Mismatch at) r clean h e = no_first (all_faults p) _ clean h
+no_fault p (typing.ZeroDivisor at) r clean h e = no_first (all_faults p) _ clean h
+no_fault p (typing.Recursive at) r clean h e = no_first (all_faults p) _ clean h
+no_fault p (typing.NotDefined at) r clean h e = no_first (all_faults p) _ clean h
+no_fault p (typing.FutureKept at) r clean h e = no_first (all_faults p) _ clean h
+no_fault p (typing.NestedAsync at) r clean h e = no_first (all_faults p) _ clean h
+no_fault p (typing.Limit at kept limit) r clean h e = no_first (all_faults p) _ clean h
+no_fault p typing.Memory r clean h e = absurd cc
+
+no_choice : (nodes : List Node) (k : ℕ) (t : TopFault) → IsChosen nodes None k → IsTopFault nodes None t → ⊥
+no_choice nodes k choosing.NoNode c h = let e = c.chosen in absurd cc
+no_choice nodes k (choosing.FutureInterface at) c h =
+    let e : option_and_then (future_at nodes) (chosen nodes None) ≡ future_at nodes k = ap (option_and_then (future_at nodes)) c.chosen in
+    let n = c.plain in absurd cc
+
+pub not_refused : (p : Program) (r : Refusal) → IsRunnable p → IsRefusedProgram p r → ⊥
+not_refused p r runs (by_types t h e) = no_fault p t r runs.clean h e
+not_refused p r runs (by_choice t clean h e) = no_choice p.nodes runs.main.0 t runs.main.1 h
+not_refused p r runs (by_form clean main h e) = h runs.served
+
+pub types_end : (p : Program) (t : TypeFault) (e : End) → IsTypeFault p t → e ≡ end_of_types t → StopsAt p e
+types_end p (typing.UnknownName at) e h is = inr (_, is, by_types (typing.UnknownName at) h refl)
+types_end p (typing.Duplicate at) e h is = inr (_, is, by_types (typing.Duplicate at) h refl)
+types_end p (typing.Mismatch at) e h is = inr (_, is, by_types (typing.Mismatch at) h refl)
+types_end p (typing.ZeroDivisor at) e h is = inr (_, is, by_types (typing.ZeroDivisor at) h refl)
+types_end p (typing.Recursive at) e h is = inr (_, is, by_types (typing.Recursive at) h refl)
+types_end p (typing.NotDefined at) e h is = inr (_, is, by_types (typing.NotDefined at) h refl)
+types_end p (typing.FutureKept at) e h is = inr (_, is, by_types (typing.FutureKept at) h refl)
+types_end p (typing.NestedAsync at) e h is = inr (_, is, by_types (typing.NestedAsync at) h refl)
+types_end p (typing.Limit at kept limit) e h is = inr (_, is, by_types (typing.Limit at kept limit) h refl)
+types_end p typing.Memory e h is = inl is
+
+pub choice_end : (p : Program) (t : TopFault) (e : End) → IsTopFault p.nodes None t → e ≡ end_of_choice t → StopsClean p e
+choice_end p choosing.NoNode e h is = inr (_, is, λ clean. by_choice choosing.NoNode clean h refl)
+choice_end p (choosing.FutureInterface at) e h is = inr (_, is, λ clean. by_choice (choosing.FutureInterface at) clean h refl)
+
+pub stops_clean : (p q : Program) (e : End) → q ≡ p → all_faults p ≡ [] → StopsClean q e → StopsAt p e
+stops_clean p q e same clean (inl h) = inl h
+stops_clean p q e same clean (inr (r, is, h)) =
+    inr (r, is, subst (λ (x : Program). IsRefusedProgram x r) same (h (subst (λ (x : Program). all_faults x ≡ []) (sym same) clean)))
+
+pub is_runnable : (p q : Program) → q ≡ p → all_faults p ≡ [] → HasMain q → IsServed q → IsRunnable p
+is_runnable p q same clean main served = record { clean = clean; main = subst HasMain same main; served = subst (λ (x : Program). IsServed x) same served }
 
 -- ---- texts that aren't read
 
@@ -38,10 +97,17 @@ Exactly text fault = (f : ReadFault) → IsRefusalOf text f → (fault ≡ f) �
 abbrev pub Only : List ℕ → ReadFault → Type 0
 Only text fault = (p : Program) → IsProgramText text p → fault ≡ reading.Memory
 
-pub unread_exactly : (text : List ℕ) (fault : ReadFault) (e : End) → e ≡ end_of fault → Exactly text fault → Only text fault → (r : Refusal) → IsRefusedText text r → (e ≡ Refused r) ⊎ (e ≡ Memory)
-unread_exactly text fault e is exactly only r (inl (f, refused, at)) =
-    ⊎_elim (λ same. inl (is ∙ ap end_of same ∙ at)) (λ memory. inr (is ∙ ap end_of memory)) (exactly f refused)
-unread_exactly text fault e is exactly only r (inr (p, spelled, why)) = inr (is ∙ ap end_of (only p spelled))
+pub unread_exactly : (text : List ℕ) (fault : ReadFault) (e : End) → e ≡ end_of_text fault → Exactly text fault → (r : Refusal) → IsUnreadText text r → (e ≡ Refused r) ⊎ (e ≡ Memory)
+unread_exactly text fault e is exactly r (f, refused, at) =
+    ⊎_elim (λ same. inl (is ∙ ap end_of_text same ∙ at)) (λ memory. inr (is ∙ ap end_of_text memory)) (exactly f refused)
+
+refused_or_memory : (e : End) (r : Refusal) → (e ≡ Refused r) ⊎ (e ≡ Memory) → IsRefused e ⊎ (e ≡ Memory)
+refused_or_memory e r (inl h) = inl (subst IsRefused (sym h) tt)
+refused_or_memory e r (inr h) = inr h
+
+pub unread_refused : (text : List ℕ) (fault : ReadFault) (e : End) → e ≡ end_of_text fault → Exactly text fault → Only text fault → (r : Refusal) → IsRefusedText text r → IsRefused e ⊎ (e ≡ Memory)
+unread_refused text fault e is exactly only r (inl h) = refused_or_memory e r (unread_exactly text fault e is exactly r h)
+unread_refused text fault e is exactly only r (inr (p, spelled, why)) = inr (is ∙ ap end_of_text (only p spelled))
 
 -- ---- programs that were read
 
@@ -51,24 +117,36 @@ NoRefusal text = (f : ReadFault) → IsRefusalOf text f → ⊥
 abbrev pub OneProgram : List ℕ → Program → Type 0
 OneProgram text program = (p : Program) → IsProgramText text p → program ≡ p
 
-abbrev pub StopsAt : Program → End → Type 0
-StopsAt program e = (e ≡ Memory) ⊎ ((r : Refusal) × (e ≡ Refused r) × IsRefusedProgram program r)
+pub read_exactly : (text : List ℕ) (result : Result Program End) → NoRefusal text → (r : Refusal) → IsUnreadText text r → MatchResult result (λ _. ⊥) (λ e. (e ≡ Refused r) ⊎ (e ≡ Memory))
+read_exactly text result none r (f, refused, at) = absurd (none f refused)
 
-pub program_exactly : (text : List ℕ) (program : Program) (e : End) → NoRefusal text → OneProgram text program → StopsAt program e → (r : Refusal) → IsRefusedText text r → (e ≡ Refused r) ⊎ (e ≡ Memory)
-program_exactly text program e none one stops r (inl (f, refused, at)) = absurd (none f refused)
-program_exactly text program e none one (inl memory) r (inr (p, spelled, why)) = inr memory
-program_exactly text program e none one (inr (s, is, because)) r (inr (p, spelled, why)) =
-    inl (is ∙ ap (λ t. Refused t) (one_refusal program s r because (subst (λ (q : Program). IsRefusedProgram q r) (sym (one p spelled)) why)))
+pub read_refused : (text : List ℕ) (program : Program) (result : Result Program End) → NoRefusal text → OneProgram text program → OnOk result (IsRunnable program) → IfErr result (StopsAt program) →
+    (r : Refusal) → IsRefusedText text r → MatchResult result (λ _. ⊥) (λ e. IsRefused e ⊎ (e ≡ Memory))
+read_refused text program result none one runs stops r (inl (f, refused, at)) = absurd (none f refused)
+read_refused text program (Ok q) none one runs stops r (inr (p, spelled, why)) = not_refused program r runs (subst (λ (x : Program). IsRefusedProgram x r) (sym (one p spelled)) why)
+read_refused text program (Err e) none one runs (inl memory) r (inr (p, spelled, why)) = inr memory
+read_refused text program (Err e) none one runs (inr (s, is, because)) r (inr (p, spelled, why)) = inl (subst IsRefused (sym is) tt)
 
-pub program_complete : (text : List ℕ) (program : Program) (e : End) → OneProgram text program → StopsAt program e → (p : Program) → IsProgramText text p → IsServed p → e ≡ Memory
-program_complete text program e one (inl memory) p spelled served = memory
-program_complete text program e one (inr (s, is, because)) p spelled served =
-    absurd (served_not_refused program s (subst (λ (q : Program). IsServed q) (sym (one p spelled)) served) because)
+pub read_complete : (text : List ℕ) (program : Program) (result : Result Program End) → OneProgram text program → IfOk result (λ q. q ≡ program) → IfErr result (StopsAt program) →
+    (p : Program) → IsProgramText text p → IsRunnable p → MatchResult result (λ q. q ≡ p) (λ e. e ≡ Memory)
+read_complete text program (Ok q) one same stops p spelled runs = same ∙ one p spelled
+read_complete text program (Err e) one same (inl memory) p spelled runs = memory
+read_complete text program (Err e) one same (inr (s, is, because)) p spelled runs =
+    absurd (not_refused program s (subst (λ (x : Program). IsRunnable x) (sym (one p spelled)) runs) because)
 
-pub served_exactly : (text : List ℕ) (program : Program) → NoRefusal text → OneProgram text program → IsServed program → (r : Refusal) → IsRefusedText text r → ⊥
-served_exactly text program none one served r (inl (f, refused, at)) = none f refused
-served_exactly text program none one served r (inr (p, spelled, why)) =
-    served_not_refused program r served (subst (λ (q : Program). IsRefusedProgram q r) (sym (one p spelled)) why)
+pub read_text : (text : List ℕ) (program : Program) (result : Result Program End) → IsProgramText text program → IfOk result (λ q. q ≡ program) → IfOk result (λ p. IsProgramText text p)
+read_text text program (Ok q) spelled same = subst (λ (x : Program). IsProgramText text x) (sym same) spelled
+read_text text program (Err e) spelled same = same
+
+pub read_runs : (program : Program) (result : Result Program End) → OnOk result (IsRunnable program) → IfOk result (λ q. q ≡ program) → IfOk result (λ p. IsRunnable p)
+read_runs program (Ok q) runs same = subst (λ (x : Program). IsRunnable x) (sym same) runs
+read_runs program (Err e) runs same = same
+
+pub read_ends : (text : List ℕ) (program : Program) (result : Result Program End) → IsProgramText text program → IfErr result (StopsAt program) →
+    IfErr result (λ e. (e ≡ Memory) ⊎ ((r : Refusal) × (e ≡ Refused r) × IsRefusedText text r))
+read_ends text program (Ok q) spelled stops = stops
+read_ends text program (Err e) spelled (inl memory) = inl memory
+read_ends text program (Err e) spelled (inr (r, is, why)) = inr (r, is, inr (program, spelled, why))
 
 -- ---- files
 
@@ -81,6 +159,12 @@ bytes_are files name other text bytes e h k = let g : files name ≡ files other
 pub same_file : (files : Option Files) (name text bytes : List ℕ) → text ≡ bytes → IfSome files (λ files. HasFile files name bytes) → IfSome files (λ files. HasFile files name text)
 same_file files name text bytes e h = subst (λ (b : List ℕ). IfSome files (λ files. HasFile files name b)) (sym e) h
 
+pub unread_file : (files : Option Files) (words : List (List ℕ)) (name text : List ℕ) (P : Refusal → Type 0) → file_of words ≡ Some name → IfSome files (λ files. HasFile files name text) →
+    ((r : Refusal) → IsUnreadText text r → P r) → IfSome files (λ files. (r : Refusal) → FileIsUnread r files words → P r)
+unread_file None words name text P named file h = tt
+unread_file (Some files) words name text P named file h = λ r f.
+    h r (subst (λ (bytes : List ℕ). IsUnreadText bytes r) (bytes_are files name f.name text f.bytes (name_is words name f.name named f.named) file f.file) f.unread)
+
 -- what is so of each refusal of the text is so of each refusal of the file
 pub refused_file : (files : Option Files) (words : List (List ℕ)) (name text : List ℕ) (P : Refusal → Type 0) → file_of words ≡ Some name → IfSome files (λ files. HasFile files name text) →
     ((r : Refusal) → IsRefusedText text r → P r) → IfSome files (λ files. (r : Refusal) → FileIsRefused r (Some files) words → P r)
@@ -89,10 +173,10 @@ refused_file (Some files) words name text P named file h = λ r f.
     h r (subst (λ (bytes : List ℕ). IsRefusedText bytes r) (bytes_are files name f.name text f.bytes (name_is words name f.name named f.named) file f.file) f.refused)
 
 pub served_file : (files : Option Files) (words : List (List ℕ)) (name text : List ℕ) (P : Program → Type 0) → file_of words ≡ Some name → IfSome files (λ files. HasFile files name text) →
-    ((p : Program) → IsProgramText text p → IsServed p → P p) → IfSome files (λ files. (p : Program) → IsProgramFile files words p → P p)
+    ((p : Program) → IsProgramText text p → IsRunnable p → P p) → IfSome files (λ files. (p : Program) → IsProgramFile files words p → P p)
 served_file None words name text P named file h = tt
 served_file (Some files) words name text P named file h = λ p f.
-    h p (subst (λ (bytes : List ℕ). IsProgramText bytes p) (bytes_are files name f.name text f.bytes (name_is words name f.name named f.named) file f.file) f.text) f.served
+    h p (subst (λ (bytes : List ℕ). IsProgramText bytes p) (bytes_are files name f.name text f.bytes (name_is words name f.name named f.named) file f.file) f.text) f.runs
 
 pub unforeseen : (e : End) (P : Type 0) → P ⊎ (e ≡ Memory) → P ⊎ IsUnforeseen e
 unforeseen e P (inl h) = inl h
@@ -100,7 +184,11 @@ unforeseen e P (inr h) = inr (subst IsUnforeseen (sym h) tt)
 
 -- ---- runs
 
-pub none_refused : (files : Option Files) (words : List (List ℕ)) (end : End) → IfSome files (λ files. (r : Refusal) → FileIsRefused r (Some files) words → ⊥) → RefusesExactly files words end
+pub none_unread : (files : Option Files) (words : List (List ℕ)) (end : End) → IfSome files (λ files. (r : Refusal) → FileIsUnread r files words → ⊥) → RefusesExactly files words end
+none_unread None words end h = tt
+none_unread (Some files) words end h = λ r f. absurd (h r f)
+
+pub none_refused : (files : Option Files) (words : List (List ℕ)) (end : End) → IfSome files (λ files. (r : Refusal) → FileIsRefused r (Some files) words → ⊥) → RefusesAll files words end
 none_refused None words end h = tt
 none_refused (Some files) words end h = λ r f. absurd (h r f)
 

@@ -1,14 +1,13 @@
 -- What a run does.
 use Rattle.std.specs.Prelude.{◌≡◌, ℕ, ◌≤◌, length, List, [], ◌++◌, map, Option, Some, IfSome, IsSomeAnd, Ok, ◌⊎◌}
 use Rattle.hept_ast.specs.declared.tree.Program.{Program}
-use Rattle.hepasync_top.specs.Served.{IsServed}
 use Rattle.std.specs.Io.KnownBytes.{Appends}
 use Rattle.hept_io.specs.Outside.{Files, HasFile, Rose}
 use Rattle.run_messages.specs.Ends.{status_of}
 use Rattle.run_messages.specs.Lines.{line_of}
 use Rattle.hept_io.specs.Lines.{lines_of}
 use Rattle.hepasync_top.specs.Words.{file_of}
-use Rattle.hepasync_top.specs.Stops.{StopsFor, FileIsRefused, IsUnforeseen}
+use Rattle.hepasync_top.specs.Stops.{StopsFor, FileIsRefused, FileIsUnread, IsRefused, IsRunnable, IsUnforeseen}
 use Rattle.run_messages.specs.declared.end.End.{End}
 use Rattle.run_messages.specs.declared.end.End.TheVariants.{Refused}
 use Rattle.run_messages.specs.declared.end.Refusal.{Refusal}
@@ -19,14 +18,14 @@ use Rattle.ept_reader.specs.Spelling.{IsProgramText}
 use Rattle.hepasync_top.specs.LineEnds.{FollowsTrace, ReadsWhole}
 use Rattle.hepasync_top.specs.Turns.{RunEnds}
 
--- The words name a file, and its bytes are the text of a program that is served.
+-- The words name a file, and its bytes are the text of a program that can be run.
 pub record IsProgramFile (files : Files) (words : List (List ℕ)) (p : Program) : Type 0 where
   pub name : List ℕ
   pub named : file_of words ≡ Some name
   pub bytes : List ℕ
   pub file : HasFile files name bytes
   pub text : IsProgramText bytes p
-  pub served : IsServed p
+  pub runs : IsRunnable p
 
 -- The words name the file of a program. Each line of the trace spells a row, and what was written is the text of the
 -- outputs that the stream meaning gives the program, with its futures erased, on these rows.
@@ -62,16 +61,20 @@ abbrev pub Ends : (limit : ℕ) → Option Files → (words : List (List ℕ)) �
 Ends limit files words old new trace held left now end =
     Runs limit files words trace held left now end ⊎ Stops files words old new trace held left now end
 
--- A file that is refused is refused so, unless memory runs out or the store fails.
+-- A file whose bytes are no text is refused so, unless memory runs out or the store fails.
 abbrev pub RefusesExactly : Option Files → (words : List (List ℕ)) → End → Type 0
-RefusesExactly files words end = IfSome files (λ files. (refusal : Refusal) → FileIsRefused refusal (Some files) words → (end ≡ Refused refusal) ⊎ IsUnforeseen end)
+RefusesExactly files words end = IfSome files (λ files. (refusal : Refusal) → FileIsUnread refusal files words → (end ≡ Refused refusal) ⊎ IsUnforeseen end)
 
--- A program that is served runs, unless memory runs out or the store fails.
+-- A file that is to be refused is refused, unless memory runs out or the store fails.
+abbrev pub RefusesAll : Option Files → (words : List (List ℕ)) → End → Type 0
+RefusesAll files words end = IfSome files (λ files. (refusal : Refusal) → FileIsRefused refusal (Some files) words → IsRefused end ⊎ IsUnforeseen end)
+
+-- A program that can be run runs, unless memory runs out or the store fails.
 abbrev pub RunsServed : (limit : ℕ) → Option Files → (words : List (List ℕ)) → (trace held left now : Option (List ℕ)) → End → Type 0
 RunsServed limit files words trace held left now end =
     IfSome files (λ files. (p : Program) → IsProgramFile files words p → RunEnds p limit trace held left now end ⊎ IsUnforeseen end)
 
--- The words name a file of a program that is served, with at most 1,048,576 bytes, and each line of the trace spells a row.
+-- The words name a file of a program that can be run, with at most 1,048,576 bytes, and each line of the trace spells a row.
 pub record IsWhole (limit : ℕ) (files : Files) (words : List (List ℕ)) (trace : List ℕ) : Type 0 where
   pub program : Program
   pub file : IsProgramFile files words program
@@ -93,7 +96,8 @@ pub record ComesTo (limit : ℕ) (files : Option Files) (words : List (List ℕ)
   pub end : End
   pub status_is : status ≡ status_of end
   pub ends : Ends limit files words files_old files_new trace held left now end
-  pub refuses : RefusesExactly files words end
+  pub refuses_text : RefusesExactly files words end
+  pub refuses : RefusesAll files words end
   pub serves : RunsServed limit files words trace held left now end
   pub says : Says end lines said err_old err_new
 

@@ -10,7 +10,14 @@ use Rattle.run_messages.specs.declared.end.End.TheVariants.{Refused, Usage, File
 use Rattle.run_messages.specs.declared.end.FileFault.{FileFault}
 use Rattle.run_messages.specs.declared.end.FileFault.TheVariants.{Failed, TooLarge, Missing}
 use Rattle.run_messages.specs.declared.end.Refusal.{Refusal}
-use Rattle.run_messages.specs.declared.end.Refusal.TheVariants.{BadByte, OpenComment, NumberTooLarge, Unexpected, TooDeep, NoNode, NotServed}
+use Rattle.run_messages.specs.declared.end.Refusal.TheVariants.{BadByte, OpenComment, NumberTooLarge, Unexpected, TooDeep, UnknownName, Duplicate, Mismatch, ZeroDivisor, Recursive, NotDefined, FutureKept, NestedAsync, Limit, NoNode, FutureInterface, NotServed}
+use Rattle.type_futures.specs.declared.check.TypeFault.{TypeFault}
+use Rattle.type_futures.specs.declared.check.TypeFault.TheVariants as typing
+use Rattle.type_futures.specs.declared.choice.TopFault.{TopFault}
+use Rattle.type_futures.specs.declared.choice.TopFault.TheVariants as choosing
+use Rattle.type_futures.specs.Checked.{IsTypeFault}
+use Rattle.type_futures.specs.Chosen.{IsChosen, IsTopFault}
+use Rattle.hept_ast.specs.Limits.{all_faults}
 use Rattle.hepasync_top.specs.Served.{IsServed}
 use Rattle.hepasync_top.specs.Words.{file_of}
 
@@ -31,27 +38,62 @@ pub record FileIsNotRead (fault : FileFault) (files : Option Files) (words : Lis
 -- ---- texts
 
 -- how a run ends that doesn't read its text
-abbrev pub end_of : ReadFault → End
-end_of (reading.BadByte at) = Refused (BadByte at)
-end_of (reading.OpenComment at) = Refused (OpenComment at)
-end_of (reading.NumberTooLarge at) = Refused (NumberTooLarge at)
-end_of (reading.Unexpected at) = Refused (Unexpected at)
-end_of (reading.TooDeep at) = Refused (TooDeep at)
-end_of reading.Memory = Memory
+abbrev pub end_of_text : ReadFault → End
+end_of_text (reading.BadByte at) = Refused (BadByte at)
+end_of_text (reading.OpenComment at) = Refused (OpenComment at)
+end_of_text (reading.NumberTooLarge at) = Refused (NumberTooLarge at)
+end_of_text (reading.Unexpected at) = Refused (Unexpected at)
+end_of_text (reading.TooDeep at) = Refused (TooDeep at)
+end_of_text reading.Memory = Memory
 
--- a program without types and nodes
-pub record IsEmpty (p : Program) : Type 0 where
-  pub no_types : p.types ≡ []
-  pub no_nodes : p.nodes ≡ []
+-- how a run ends of a program with this fault
+abbrev pub end_of_types : TypeFault → End
+end_of_types (typing.UnknownName at) = Refused (UnknownName at)
+end_of_types (typing.Duplicate at) = Refused (Duplicate at)
+end_of_types (typing.Mismatch at) = Refused (Mismatch at)
+end_of_types (typing.ZeroDivisor at) = Refused (ZeroDivisor at)
+end_of_types (typing.Recursive at) = Refused (Recursive at)
+end_of_types (typing.NotDefined at) = Refused (NotDefined at)
+end_of_types (typing.FutureKept at) = Refused (FutureKept at)
+end_of_types (typing.NestedAsync at) = Refused (NestedAsync at)
+end_of_types (typing.Limit at kept limit) = Refused (Limit at kept limit)
+end_of_types typing.Memory = Memory
 
--- why a program that was read isn't run
-abbrev pub IsRefusedProgram : Program → Refusal → Type 0
-IsRefusedProgram p r = (IsEmpty p × (r ≡ NoNode)) ⊎ ((IsEmpty p → ⊥) × (IsServed p → ⊥) × (r ≡ NotServed))
+abbrev pub end_of_choice : TopFault → End
+end_of_choice choosing.NoNode = Refused NoNode
+end_of_choice (choosing.FutureInterface at) = Refused (FutureInterface at)
+
+-- the program has a node to run, without futures among its inputs and outputs
+abbrev pub HasMain : Program → Type 0
+HasMain p = (k : ℕ) × IsChosen p.nodes None k
+
+-- nothing is wrong with the program, and it is one that is run so far
+pub record IsRunnable (p : Program) : Type 0 where
+  pub clean : all_faults p ≡ []
+  pub main : HasMain p
+  pub served : IsServed p
+
+-- Why a program that was read isn't run: the first of its faults, no node to run, or that it isn't one that is run so far.
+pub data IsRefusedProgram (p : Program) : Refusal → Type 0 where
+  by_types : {r : Refusal} (t : TypeFault) → IsTypeFault p t → end_of_types t ≡ Refused r → IsRefusedProgram p r
+  by_choice : {r : Refusal} (t : TopFault) → all_faults p ≡ [] → IsTopFault p.nodes None t → end_of_choice t ≡ Refused r → IsRefusedProgram p r
+  by_form : {r : Refusal} → all_faults p ≡ [] → HasMain p → (IsServed p → ⊥) → r ≡ NotServed → IsRefusedProgram p r
+
+-- The bytes are no text of a program.
+abbrev pub IsUnreadText : List ℕ → Refusal → Type 0
+IsUnreadText bytes r = (f : ReadFault) × IsRefusalOf bytes f × (end_of_text f ≡ Refused r)
 
 -- The bytes are no text of a program, or that of one that isn't run.
 abbrev pub IsRefusedText : List ℕ → Refusal → Type 0
-IsRefusedText bytes r =
-    ((f : ReadFault) × IsRefusalOf bytes f × (end_of f ≡ Refused r)) ⊎ ((p : Program) × IsProgramText bytes p × IsRefusedProgram p r)
+IsRefusedText bytes r = IsUnreadText bytes r ⊎ ((p : Program) × IsProgramText bytes p × IsRefusedProgram p r)
+
+-- The words name a file of the store, and its bytes are no text of a program.
+pub record FileIsUnread (refusal : Refusal) (files : Files) (words : List (List ℕ)) : Type 0 where
+  pub name : List ℕ
+  pub named : file_of words ≡ Some name
+  pub bytes : List ℕ
+  pub file : HasFile files name bytes
+  pub unread : IsUnreadText bytes refusal
 
 -- The words name a file, and its bytes were read and are refused.
 pub record FileIsRefused (refusal : Refusal) (files : Option Files) (words : List (List ℕ)) : Type 0 where
@@ -76,3 +118,7 @@ abbrev pub IsUnforeseen : End → Type 0
 IsUnforeseen (File fault) = ⊤
 IsUnforeseen Memory = ⊤
 IsUnforeseen other = ⊥
+
+abbrev pub IsRefused : End → Type 0
+IsRefused (Refused refusal) = ⊤
+IsRefused other = ⊥

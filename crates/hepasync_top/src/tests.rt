@@ -146,7 +146,7 @@ fn value_counts(rt: HostRuntime) -> Result<(), Fail> {
 #[test]
 fn undeclared(rt: HostRuntime) -> Result<(), Fail> {
     let text = b"node main(x:int) returns (y:int) let y = z tel";
-    let line = b"hepasync: refused: not served\n";
+    let line = b"hepasync: refused: unknown name at 41\n";
     expect(&rt, rt.alloc(), text, b"1\n", 1, b"", line)
 }
 
@@ -163,18 +163,62 @@ fn empty_file(rt: HostRuntime) -> Result<(), Fail> {
 #[test]
 fn not_served(rt: HostRuntime) -> Result<(), Fail> {
     let texts = [
-        // an input that is defined
-        b"node main(x:int) returns (y:int) let y = x; x = 1 tel".as_slice(),
         // a variable that is read before its equation
         b"node main(x:int) returns (y:int; z:int) let y = z; z = x tel".as_slice(),
         // a sign that isn't served
         b"node main(x:int) returns (y:int) let y = x * x tel".as_slice(),
         // a type
         b"type t = A node main(x:int) returns (y:int) let y = x tel".as_slice(),
+        // two nodes
+        b"node f(x:int) returns (y:int) let y = x tel node main(x:int) returns (y:int) let y = x tel".as_slice(),
     ];
     for text in texts {
         let line = b"hepasync: refused: not served\n";
         expect(&rt, rt.alloc(), text, b"1\n", 1, b"", line)?;
+    }
+    Ok(())
+}
+
+// Texts of programs with something wrong in their names, types, futures or limits, or without a node to run.
+#[test]
+fn type_faults(rt: HostRuntime) -> Result<(), Fail> {
+    let rows = [
+        (
+            b"node main(x:int) returns (y:int) let y = x; x = 1 tel".as_slice(),
+            b"hepasync: refused: duplicate at 44\n".as_slice(),
+        ),
+        (
+            b"node main(x:int) returns (y:int) let y = x + true tel".as_slice(),
+            b"hepasync: refused: mismatch at 43\n".as_slice(),
+        ),
+        (
+            b"node main(x:int) returns (y:int) let y = x / 0 tel".as_slice(),
+            b"hepasync: refused: zero divisor at 43\n".as_slice(),
+        ),
+        (
+            b"node main(x:int) returns (y:int) let y = main(x) tel".as_slice(),
+            b"hepasync: refused: recursive at 41\n".as_slice(),
+        ),
+        (
+            b"node main(x:int) returns (y:int) let tel".as_slice(),
+            b"hepasync: refused: not defined at 26\n".as_slice(),
+        ),
+        (
+            b"node main(x:future int) returns (y:int) let y = !x tel".as_slice(),
+            b"hepasync: refused: future interface at 10\n".as_slice(),
+        ),
+        (
+            b"node f(x:int) returns (z:int) let z = x tel node main(x:int) returns (y:int) let y = !(async<<0>> f(x)) tel".as_slice(),
+            b"hepasync: refused: limit at 87: 0 of 1024\n".as_slice(),
+        ),
+        (
+            b"node main(x:int) returns (y:int) let y = x when true(b) tel".as_slice(),
+            b"hepasync: refused: unknown name at 43\n".as_slice(),
+        ),
+    ];
+    for (text, line) in rows {
+        let outcome = outcome_of(rt.alloc(), &["a.ept"], Some(text), b"1\n", 9, NONE)?;
+        expect_outcome(&rt, outcome, 1, b"", line);
     }
     Ok(())
 }

@@ -1,23 +1,20 @@
 //! The top call.
-ghost use Rattle.std.specs.Prelude.{◌≡◌, ◌≤◌, ◌<◌, ◌^◌, length, ◌⊎◌, [], None, ◌↔◌, map, string_bytes, IfOk, IfErr, IfSome, IsTrue, OnOk, MatchResult, Some, Err};
+ghost use Rattle.std.specs.Prelude.{◌≡◌, ◌≤◌, ◌⊎◌, [], None, ◌↔◌, map, string_bytes, IfOk, IfErr, IfSome, MatchResult, Some, Err};
 ghost use Rattle.hept_ast.specs.declared.tree.Program.{Program as AnyProgram};
 ghost use Rattle.hept_io.specs.Outside.{Rose};
 ghost use Rattle.run_messages.specs.Ends.{status_of};
 ghost use Rattle.run_messages.specs.declared.end.Refusal.{Refusal as AnyRefusal};
-ghost use Rattle.ept_reader.specs.Spelling.{IsProgramText};
-ghost use Rattle.hepasync_top.specs.Served.{IsServed};
 ghost use Rattle.hepasync_top.specs.Machine.{HasDone, IsFresh};
-ghost use Rattle.hepasync_top.specs.Stops.{FileIsNotRead, FileIsRefused, IsEmpty, IsRefusedProgram, IsRefusedText, IsUnforeseen, StopsFor, end_of};
-ghost use Rattle.hepasync_top.specs.Run.{ComesTo, Ends, EndsWhole, HasNoneLeft, IsProgramFile, RefusesExactly, RunsServed, WritesOnlyAfterReading, WrittenWhereTold};
+ghost use Rattle.hepasync_top.specs.Stops.{FileIsRefused, FileIsUnread, IsRefused, IsUnforeseen, StopsFor};
+ghost use Rattle.hepasync_top.specs.Run.{ComesTo, Ends, EndsWhole, HasNoneLeft, IsProgramFile, RefusesAll, RefusesExactly, RunsServed, WritesOnlyAfterReading, WrittenWhereTold};
 ghost use Rattle.hepasync_top.specs.Words.{file_of};
 
+use crate::checks::read_checked;
 use crate::machine::Machine;
-use crate::served::is_served;
 use crate::words::{file_of, read_text};
-use ept_reader::{ReadFault, read_program};
-use hept_ast::{Memory, Program};
+use hept_ast::Memory;
 use hept_io::{Gate, Sink, Source, Store, line_laws};
-use run_messages::{End, Refusal, write_line};
+use run_messages::{End, write_line};
 use std::alloc::Global;
 
 /// The most rows that may count.
@@ -32,69 +29,15 @@ pub struct RunEnd {
     pub status: u8,
 }
 
-/// How a run ends whose text is not read.
-fn end_of(fault: ReadFault) -> End
-    ensures { result ≡ end_of fault }
-{
-    match fault {
-        ReadFault::BadByte { at } => End::Refused(Refusal::BadByte { at }),
-        ReadFault::OpenComment { at } => End::Refused(Refusal::OpenComment { at }),
-        ReadFault::NumberTooLarge { at } => End::Refused(Refusal::NumberTooLarge { at }),
-        ReadFault::Unexpected { at } => End::Refused(Refusal::Unexpected { at }),
-        ReadFault::TooDeep { at } => End::Refused(Refusal::TooDeep { at }),
-        ReadFault::Memory => End::Memory,
-    }
-}
-
-fn is_empty(program: &Program) -> bool
-    ensures { IsTrue result ↔ IsEmpty program.now }
-{
-    if !program.types.is_empty() {
-        return false;
-    }
-    program.nodes.is_empty()
-}
-
-/// Whether a program that was read is one that is run so far.
-fn check_served(alloc: Global, program: &Program) -> Result<(), End>
-    ensures served { OnOk result (IsServed program.now) }
-    ensures ends { IfErr result (λ e. (e ≡ End.Memory) ⊎ ((r : AnyRefusal) × (e ≡ End.Refused r) × IsRefusedProgram program.now r)) }
-{
-    if is_empty(program) {
-        return Err(End::Refused(Refusal::NoNode));
-    }
-    match is_served(alloc, program) {
-        Ok(true) => Ok(()),
-        Ok(false) => Err(End::Refused(Refusal::NotServed)),
-        Err(Memory) => Err(End::Memory),
-    }
-}
-
-/// The program that a text spells, if it is one that is run so far.
-fn read_served(alloc: Global, text: &[u8]) -> Result<Program, End>
-    requires { length text.now < 2 ^ 32 }
-    ensures text { IfOk result (λ p. IsProgramText text.now p) }
-    ensures served { IfOk result (λ p. IsServed p) }
-    ensures ends { IfErr result (λ e. (e ≡ End.Memory) ⊎ ((r : AnyRefusal) × (e ≡ End.Refused r) × IsRefusedText text.now r)) }
-    // What is to be refused is refused so, and what is served is read, unless memory runs out.
-    ensures exactly { (r : AnyRefusal) → IsRefusedText text.now r → MatchResult result (λ _. ⊥) (λ e. (e ≡ End.Refused r) ⊎ (e ≡ End.Memory)) }
-    ensures complete { (p : AnyProgram) → IsProgramText text.now p → IsServed p → MatchResult result (λ q. q ≡ p) (λ e. e ≡ End.Memory) }
-{
-    let program = match read_program(alloc, text) {
-        Ok(program) => program,
-        Err(fault) => return Err(end_of(fault)),
-    };
-    check_served(alloc, &program)?;
-    Ok(program)
-}
-
 /// Makes all that takes memory: nothing does once the trace is read.
 fn prepare<F: Store>(alloc: Global, words: &[String], files: &mut F) -> Result<Machine, End>
     ensures ready { IfOk result (λ m. IsFresh (F.files files.old) (map string_bytes words.now) m) }
     ensures ends { IfErr result (λ e. StopsFor e (F.files files.old) (map string_bytes words.now) (F.faults files.old) (F.faults files.new)) }
     ensures usage { file_of (map string_bytes words.now) ≡ None → result ≡ Err End.Usage }
-    ensures exactly { IfSome (F.files files.old) (λ files. (r : AnyRefusal) → FileIsRefused r (Some files) (map string_bytes words.now) →
+    ensures exactly { IfSome (F.files files.old) (λ files. (r : AnyRefusal) → FileIsUnread r files (map string_bytes words.now) →
         MatchResult result (λ _. ⊥) (λ e. (e ≡ End.Refused r) ⊎ IsUnforeseen e)) }
+    ensures refused { IfSome (F.files files.old) (λ files. (r : AnyRefusal) → FileIsRefused r (Some files) (map string_bytes words.now) →
+        MatchResult result (λ _. ⊥) (λ e. IsRefused e ⊎ IsUnforeseen e)) }
     ensures complete { IfSome (F.files files.old) (λ files. (p : AnyProgram) → IsProgramFile files (map string_bytes words.now) p →
         MatchResult result (λ m. HasDone p m [] []) IsUnforeseen) }
     ensures count { F.faults files.old ≤ F.faults files.new }
@@ -103,8 +46,8 @@ fn prepare<F: Store>(alloc: Global, words: &[String], files: &mut F) -> Result<M
         return Err(End::Usage);
     };
     let text = read_text(alloc, name, files)?;
-    let program = read_served(alloc, text.as_slice())?;
-    match Machine::new(alloc, &program) {
+    let typed = read_checked(alloc, text.as_slice())?;
+    match Machine::new(alloc, typed.program()) {
         Ok(machine) => Ok(machine),
         Err(Memory) => Err(End::Memory),
     }
@@ -121,7 +64,8 @@ fn run_to_end<F: Store, S: Source, K: Sink>(
     ensures ends { Ends 4294967294 (F.files files.old) (map string_bytes words.now) (F.faults files.old) (F.faults files.new)
         (S.left trace.old) (K.held out.old) (S.left trace.new) (K.held out.new) result }
     ensures usage { file_of (map string_bytes words.now) ≡ None → result ≡ End.Usage }
-    ensures refuses { RefusesExactly (F.files files.old) (map string_bytes words.now) result }
+    ensures refuses_text { RefusesExactly (F.files files.old) (map string_bytes words.now) result }
+    ensures refuses { RefusesAll (F.files files.old) (map string_bytes words.now) result }
     ensures serves { RunsServed 4294967294 (F.files files.old) (map string_bytes words.now)
         (S.left trace.old) (K.held out.old) (S.left trace.new) (K.held out.new) result }
     ensures read_fault { result ≡ End.ReadFault → Rose (S.faults trace.old) (S.faults trace.new) }

@@ -15,6 +15,7 @@ returns-clause-ends g c = record {
   end = c.run_to_end-end.result;
   status_is = c.status.ensures;
   ends = c.run_to_end-end.ensures.ends;
+  refuses_text = c.run_to_end-end.ensures.refuses_text;
   refuses = c.run_to_end-end.ensures.refuses;
   serves = c.run_to_end-end.ensures.serves;
   says = says_line _ c.write_line.result _ _ _ _ c.write_line.ensures.line c.write_line.ensures.cause;

@@ -4,7 +4,7 @@ use Rattle.hepasync_top.specs.Machine.{HasDone}
 use Rattle.hepasync_top.specs.Turns.{RunEnds}
 use Rattle.hepasync_top.proofs.Statuses.{at_start}
 use Rattle.hepasync_top.proofs.Lines.{follows_trace}
-use Rattle.hepasync_top.proofs.Refusing.{none_refused, runs_served, stops_served}
+use Rattle.hepasync_top.proofs.Refusing.{none_refused, none_unread, runs_served, stops_served}
 use Rattle.hepasync_top.proofs.top.run_to_end.Goals as goal
 
 pub returns-in-Ok-clause-ends : goal.returns-in-Ok-clause-ends
@@ -18,8 +18,11 @@ returns-in-Ok-clause-ends g c = let r = c.in-Ok.ensures.ready in inl (record {
       (at_start c.in-Ok.machine.reader (g.S.Source.left c.args.trace.now) r.pending) (c.turns.ensures.ends r.program r.done));
 })
 
+pub returns-in-Ok-clause-refuses_text : goal.returns-in-Ok-clause-refuses_text
+returns-in-Ok-clause-refuses_text g c = none_unread _ _ _ c.in-Ok.ensures.exactly
+
 pub returns-in-Ok-clause-refuses : goal.returns-in-Ok-clause-refuses
-returns-in-Ok-clause-refuses g c = none_refused _ _ _ c.in-Ok.ensures.exactly
+returns-in-Ok-clause-refuses g c = none_refused _ _ _ c.in-Ok.ensures.refused
 
 pub returns-in-Ok-clause-serves : goal.returns-in-Ok-clause-serves
 returns-in-Ok-clause-serves g c = runs_served _ _ _ _ _ _ _ _ (λ (p : Program). HasDone p c.in-Ok.machine [] []) c.in-Ok.ensures.complete

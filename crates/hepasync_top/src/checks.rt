@@ -1,0 +1,110 @@
+//! The checks of a file's text before it is run.
+ghost use Rattle.std.specs.Prelude.{◌≡◌, ◌<◌, ◌^◌, length, ◌⊎◌, [], IfOk, IfErr, OnOk, MatchResult};
+ghost use Rattle.hept_ast.specs.declared.tree.Program.{Program as AnyProgram};
+ghost use Rattle.hept_ast.specs.Limits.{all_faults};
+ghost use Rattle.run_messages.specs.declared.end.Refusal.{Refusal as AnyRefusal};
+ghost use Rattle.ept_reader.specs.Spelling.{IsProgramText};
+ghost use Rattle.hepasync_top.specs.Served.{IsServed};
+ghost use Rattle.hepasync_top.specs.Stops.{HasMain, IsRefusedProgram, IsRefused, IsRefusedText, IsRunnable, IsUnreadText, end_of_choice, end_of_text, end_of_types};
+
+use crate::served::is_served;
+use ept_reader::{ReadFault, read_program};
+use hept_ast::{Memory, Program, Typed};
+use run_messages::{End, Refusal};
+use std::alloc::Global;
+use type_futures::{TopFault, TypeFault, check_types, choose};
+
+/// How a run ends whose text is not read.
+fn end_of_text(fault: ReadFault) -> End
+    ensures { result ≡ end_of_text fault }
+{
+    match fault {
+        ReadFault::BadByte { at } => End::Refused(Refusal::BadByte { at }),
+        ReadFault::OpenComment { at } => End::Refused(Refusal::OpenComment { at }),
+        ReadFault::NumberTooLarge { at } => End::Refused(Refusal::NumberTooLarge { at }),
+        ReadFault::Unexpected { at } => End::Refused(Refusal::Unexpected { at }),
+        ReadFault::TooDeep { at } => End::Refused(Refusal::TooDeep { at }),
+        ReadFault::Memory => End::Memory,
+    }
+}
+
+/// How a run ends of a program with this fault.
+fn end_of_types(fault: TypeFault) -> End
+    ensures { result ≡ end_of_types fault }
+{
+    match fault {
+        TypeFault::UnknownName { at } => End::Refused(Refusal::UnknownName { at }),
+        TypeFault::Duplicate { at } => End::Refused(Refusal::Duplicate { at }),
+        TypeFault::Mismatch { at } => End::Refused(Refusal::Mismatch { at }),
+        TypeFault::ZeroDivisor { at } => End::Refused(Refusal::ZeroDivisor { at }),
+        TypeFault::Recursive { at } => End::Refused(Refusal::Recursive { at }),
+        TypeFault::NotDefined { at } => End::Refused(Refusal::NotDefined { at }),
+        TypeFault::FutureKept { at } => End::Refused(Refusal::FutureKept { at }),
+        TypeFault::NestedAsync { at } => End::Refused(Refusal::NestedAsync { at }),
+        TypeFault::Limit { at, kept, limit } => End::Refused(Refusal::Limit { at, kept, limit }),
+        TypeFault::Memory => End::Memory,
+    }
+}
+
+/// How a run ends of a program that has no node to run.
+fn end_of_choice(fault: TopFault) -> End
+    ensures { result ≡ end_of_choice fault }
+{
+    match fault {
+        TopFault::NoNode => End::Refused(Refusal::NoNode),
+        TopFault::FutureInterface { at } => End::Refused(Refusal::FutureInterface { at }),
+    }
+}
+
+/// Whether a program has a node to run, and is one that is run so far.
+fn check_served(alloc: Global, typed: &Typed) -> Result<(), End>
+    ensures main { OnOk result (HasMain typed.now) }
+    ensures served { OnOk result (IsServed typed.now) }
+    ensures ends { IfErr result (λ e. (e ≡ End.Memory) ⊎ ((r : AnyRefusal) × (e ≡ End.Refused r) × (all_faults typed.now ≡ [] → IsRefusedProgram typed.now r))) }
+{
+    // A program within the limits has fewer nodes by far.
+    if typed.program().nodes.len() > u32::MAX as usize {
+        return Err(End::Memory);
+    }
+    let _main = match choose(typed, None) {
+        Ok(main) => main,
+        Err(fault) => return Err(end_of_choice(fault)),
+    };
+    match is_served(alloc, typed.program()) {
+        Ok(true) => Ok(()),
+        Ok(false) => Err(End::Refused(Refusal::NotServed)),
+        Err(Memory) => Err(End::Memory),
+    }
+}
+
+/// The program, where nothing is wrong with it and it is one that is run so far.
+fn check_program(alloc: Global, program: Program) -> Result<Typed, End>
+    ensures same { IfOk result (λ typed. typed ≡ program) }
+    ensures runs { OnOk result (IsRunnable program) }
+    ensures ends { IfErr result (λ e. (e ≡ End.Memory) ⊎ ((r : AnyRefusal) × (e ≡ End.Refused r) × IsRefusedProgram program r)) }
+{
+    let typed = match check_types(alloc, program) {
+        Ok(typed) => typed,
+        Err(fault) => return Err(end_of_types(fault)),
+    };
+    check_served(alloc, &typed)?;
+    Ok(typed)
+}
+
+/// The program that a text spells, if it is one that is run so far.
+pub(crate) fn read_checked(alloc: Global, text: &[u8]) -> Result<Typed, End>
+    requires { length text.now < 2 ^ 32 }
+    ensures text { IfOk result (λ p. IsProgramText text.now p) }
+    ensures runs { IfOk result (λ p. IsRunnable p) }
+    ensures ends { IfErr result (λ e. (e ≡ End.Memory) ⊎ ((r : AnyRefusal) × (e ≡ End.Refused r) × IsRefusedText text.now r)) }
+    // What is no text is refused so, what is to be refused is, and what can be run is read, unless memory runs out.
+    ensures exactly { (r : AnyRefusal) → IsUnreadText text.now r → MatchResult result (λ _. ⊥) (λ e. (e ≡ End.Refused r) ⊎ (e ≡ End.Memory)) }
+    ensures refused { (r : AnyRefusal) → IsRefusedText text.now r → MatchResult result (λ _. ⊥) (λ e. IsRefused e ⊎ (e ≡ End.Memory)) }
+    ensures complete { (p : AnyProgram) → IsProgramText text.now p → IsRunnable p → MatchResult result (λ q. q ≡ p) (λ e. e ≡ End.Memory) }
+{
+    let program = match read_program(alloc, text) {
+        Ok(program) => program,
+        Err(fault) => return Err(end_of_text(fault)),
+    };
+    check_program(alloc, program)
+}
