@@ -1,5 +1,7 @@
-//! Texts of programs, read and checked by the rules of names, types and futures.
+//! Texts of programs, read and checked by the rules of the language, with the place of what is wrong.
 #![tactic(auto)]
 
+#[cfg(test)]
+mod acceptance;
 #[cfg(test)]
 mod tests;
