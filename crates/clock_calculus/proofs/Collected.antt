@@ -17,7 +17,7 @@ use Rattle.hept_ast.specs.declared.tree.Form.{Form}
 use Rattle.hept_ast.proofs.Unfolded.{static}
 use Rattle.hept_ast.proofs.ConditionsOf.{operand, operand_list, branch_list, conditions-Const, conditions-Var, conditions-Last, conditions-Unary, conditions-Binary, conditions-If, conditions-Fby, conditions-Pre, conditions-Arrow, conditions-When, conditions-Merge, conditions-Call, conditions-AsyncCall, conditions-AsyncConst, conditions-Get}
 use Rattle.hept_ast.proofs.FormsOf.{below-Const, below-Var, below-Last, below-Unary, below-Binary, below-If, below-Fby, below-Pre, below-Arrow, below-When, below-Merge, below-Call, below-AsyncCall, below-AsyncConst, below-Get}
-use Rattle.clock_calculus.specs.Collecting.{Collection, counted, added, wrote, after_outer, after_reading, after_form, expected, after_operand, after_branch}
+use Rattle.clock_calculus.specs.Collecting.{Collection, counted, added, wrote, after_outer, after_reading, after_form, after_operand, after_branch}
 
 -- ---- the clock of each form
 

@@ -1,7 +1,6 @@
 -- Clocks set one after another.
 use Rattle.std.proofs.Common.{◌≡◌, ℕ, ◌+◌, ◌<◌, List, [], ◌∷◌, ◌++◌, length, map, take, refl, sym, ◌∙◌, ap, subst, Bool, true, false, if◌then◌else◌, ◌==◌, ◌&&◌, ◌||◌, Some, None, slice_index_or}
 use Rattle.std.specs.Prelude.{Option, slice_get, unwrap_or}
-use Rattle.std.specs.List.{list_any}
 use Rattle.std.proofs.lemmas.Slice.Eq.{bytes_eq-Decides}
 use Rattle.std.proofs.lemmas.List.{map-append, take-map, take_more}
 use Rattle.std.proofs.lemmas.List.Folds.{list_any-append}
@@ -15,7 +14,7 @@ use Rattle.hept_ast.specs.Scopes.{Clock}
 use Rattle.hept_ast.specs.Texts.{Name, is_in, same}
 use Rattle.hept_ast.specs.declared.tree.ClockPath.{ClockPath}
 use Rattle.clock_calculus.specs.Filled.{IsFilled}
-use Rattle.clock_calculus.specs.Unify.{Bindings, bound, least, steps_of}
+use Rattle.clock_calculus.specs.Unify.{Bindings, least, steps_of}
 
 chosen : (t : Bool) (p o : Option ClockPath) → o ≡ (if t && false then p else o)
 chosen true p o = refl

@@ -1,5 +1,5 @@
 -- What the solved conditions of a node say of its clocks.
-use Rattle.std.proofs.Common.{◌≡◌, ℕ, ◌+◌, ◌≤◌, List, [], ◌∷◌, length, map, refl, sym, ◌∙◌, ap, arith, subst, Bool, true, false, ◌||◌, ◌<◌, zero, suc}
+use Rattle.std.proofs.Common.{◌≡◌, ℕ, ◌+◌, ◌≤◌, List, [], ◌∷◌, length, map, refl, sym, ◌∙◌, ap, arith, subst, Bool, true, false, ◌||◌}
 use Rattle.std.specs.Prelude.{All, sum_by}
 use Rattle.std.proofs.lemmas.List.{length-map}
 use Rattle.std.proofs.lemmas.List.Sums.{sum_by-cons}
@@ -8,16 +8,15 @@ use Rattle.std.proofs.lemmas.Slice.Eq.{bytes_eq-Decides}
 use Rattle.hept_ast.specs.Texts.{Name, is_in, names, same}
 use Rattle.hept_ast.specs.Parts.{expressions, variables}
 use Rattle.hept_ast.specs.Scopes.{Clock}
-use Rattle.hept_ast.specs.Clocks.{AreClocks, AreLeastClocks, Meets, conditions, total_length}
-use Rattle.hept_ast.specs.Clocks as clocks
+use Rattle.hept_ast.specs.Clocks.{conditions}
 use Rattle.hept_ast.specs.declared.tree.Decl.{Decl}
 use Rattle.hept_ast.specs.declared.tree.Node.{Node}
 use Rattle.hept_ast.specs.declared.tree.ClockStep.{ClockStep}
-use Rattle.clock_calculus.specs.Collecting.{Collection, collection, of_node}
-use Rattle.clock_calculus.specs.Noted.{IsClashIn, IsSolvedNode, SolutionOf}
-use Rattle.clock_calculus.specs.Numbering.{IsNumbered, KnowsStep, equation_of, equations_of, names_of, solved_clock, step_of, steps_of}
+use Rattle.clock_calculus.specs.Collecting.{collection, of_node}
+use Rattle.clock_calculus.specs.Noted.{IsSolvedNode, SolutionOf}
+use Rattle.clock_calculus.specs.Numbering.{IsNumbered, KnowsStep, equation_of, equations_of, names_of, solved_clock, steps_of}
 use Rattle.clock_calculus.specs.Proper.{AreProper}
-use Rattle.clock_calculus.specs.Solving.{Equation, IsAnswer}
+use Rattle.clock_calculus.specs.Solving.{IsAnswer}
 use Rattle.clock_calculus.specs.Unify.{least}
 use Rattle.clock_calculus.specs.Written.{clock_term, condition_of}
 use Rattle.clock_calculus.specs.declared.conditions.Condition.{Condition}

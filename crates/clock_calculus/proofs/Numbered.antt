@@ -1,7 +1,7 @@
 -- Numbers of variables and steps.
-use Rattle.std.proofs.Common.{◌≡◌, ℕ, ◌+◌, ◌<◌, List, [], ◌∷◌, ◌++◌, ◌&&◌, ◌||◌, take, subst, slice_index_or, length, map, refl, sym, ◌∙◌, ap, arith, Bool, true, false, not, cond, Some, None, nat_lt}
-use Rattle.std.specs.Prelude.{Option, position, All}
-use Rattle.std.specs.List.{list_any, position_or_len, prefix_len}
+use Rattle.std.proofs.Common.{◌≡◌, ℕ, ◌+◌, ◌<◌, List, [], ◌∷◌, ◌++◌, ◌&&◌, ◌||◌, take, subst, slice_index_or, length, map, refl, sym, ◌∙◌, ap, Bool, true, false, not, cond, Some, None, nat_lt}
+use Rattle.std.specs.Prelude.{position, All}
+use Rattle.std.specs.List.{list_any, prefix_len}
 use Rattle.std.proofs.lemmas.Slice.Eq.{bytes_eq-Decides}
 use Rattle.std.proofs.lemmas.List.Elements.{All-more, All-weaker, All-head, All-tail}
 use Rattle.std.proofs.lemmas.List.Folds.{list_any-append}

@@ -1,7 +1,6 @@
 -- One node after another: their clocks, or the place where they have none.
-use Rattle.std.proofs.Common.{◌≡◌, ℕ, zero, suc, ◌+◌, ◌<◌, ◌≤◌, ◌≢◌, List, [], ◌∷◌, ◌++◌, length, map, take, refl, sym, ◌∙◌, ap, arith, subst, Bool, true, false, if◌then◌else◌, ◌==◌, ◌&&◌, ◌||◌, ◌⊎◌, inl, inr, Some, None, nat_lt, nat_le, slice_index_or, cond}
-use Rattle.std.specs.Prelude.{Option, All, filter, is_some, position, slice_get}
-use Rattle.std.specs.List.{list_any}
+use Rattle.std.proofs.Common.{◌≡◌, ℕ, ◌+◌, ◌<◌, ◌≤◌, ◌≢◌, List, [], ◌∷◌, length, take, refl, sym, ◌∙◌, ap, arith, subst, Bool, true, false, if◌then◌else◌, ◌==◌, ◌&&◌, ◌⊎◌, inl, inr, Some, None, nat_lt, nat_le, slice_index_or, cond}
+use Rattle.std.specs.Prelude.{Option, All, filter, is_some, slice_get}
 use Rattle.std.proofs.lemmas.Bool.{cases_lt}
 use Rattle.std.proofs.lemmas.Bool.Decides.{nat_tests}
 use Rattle.std.proofs.lemmas.List.{get_or-take, length-take, take_all}
@@ -21,7 +20,7 @@ use Rattle.hept_ast.specs.declared.tree.Node.{Node}
 use Rattle.hept_ast.specs.declared.tree.Program.{Program}
 use Rattle.clock_calculus.specs.Checked.{HasNoClock}
 use Rattle.clock_calculus.specs.Filled.{IsFilled}
-use Rattle.clock_calculus.specs.Noted.{AreClockedUpTo, IsClashIn, IsNoClockIn, IsNoted, IsNotedAs, IsProgress, IsSolvedNode, SolutionOf, earlier_place}
+use Rattle.clock_calculus.specs.Noted.{AreClockedUpTo, IsClashIn, IsNoClockIn, IsNoted, IsNotedAs, IsProgress, IsSolvedNode, SolutionOf}
 use Rattle.clock_calculus.specs.Numbering.{clock_path, names_of, solved_clock, steps_of}
 use Rattle.clock_calculus.specs.Unify.{Bindings, base_path, least}
 use Rattle.clock_calculus.specs.declared.nodes.SolvedNode.{SolvedNode}

@@ -1,14 +1,12 @@
 -- Look-ups in what stands around a part.
 use Rattle.std.proofs.Common.{◌≡◌, ℕ, ◌+◌, ◌<◌, List, [], ◌∷◌, ◌++◌, length, map, take, drop, get_or, refl, sym, ◌∙◌, ap, arith, Bool, true, false, ◌||◌, Some, None, append_assoc, append-nil}
-use Rattle.std.specs.Prelude.{Option}
-use Rattle.std.specs.List.{list_any, find}
+use Rattle.std.specs.List.{list_any}
 use Rattle.std.specs.Option.{option_or}
 use Rattle.std.proofs.lemmas.List.{at_drop_more, take_all, take_more}
 use Rattle.std.proofs.lemmas.List.Folds.{find-append, list_any-append}
-use Rattle.hept_ast.specs.Texts.{Name, is_in, names, same}
+use Rattle.hept_ast.specs.Texts.{Name, is_in, same}
 use Rattle.hept_ast.specs.Clocks.{own_names}
-use Rattle.hept_ast.specs.Parts.{declaration, locals_around, Branch_of, Body_of, State_of, strong_of_all}
-use Rattle.hept_ast.specs.declared.tree.Decl.{Decl}
+use Rattle.hept_ast.specs.Parts.{declaration, locals_around}
 use Rattle.hept_ast.specs.declared.tree.Node.{Node}
 use Rattle.clock_calculus.specs.Sites.{around_of}
 use Rattle.clock_calculus.specs.declared.scope.Around as around

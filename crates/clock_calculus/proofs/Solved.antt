@@ -1,12 +1,12 @@
 -- Equations of terms, solved one after another.
-use Rattle.std.proofs.Common.{◌≡◌, ℕ, zero, suc, ◌+◌, ◌<◌, ◌≤◌, List, [], ◌∷◌, ◌++◌, length, map, take, refl, sym, ◌∙◌, ap, arith, subst, Bool, true, false, Some, None, slice_index_or, MatchBool, ◌⊎◌, inl, inr}
-use Rattle.std.specs.Prelude.{Option, All}
+use Rattle.std.proofs.Common.{◌≡◌, ℕ, zero, suc, ◌+◌, ◌<◌, ◌≤◌, List, [], ◌∷◌, ◌++◌, length, map, take, refl, sym, ◌∙◌, ap, arith, subst, None, slice_index_or, inl, inr}
+use Rattle.std.specs.Prelude.{All}
 use Rattle.std.specs.List.Sorted.{IsPermutation, IsNonDecreasingBy}
-use Rattle.std.proofs.lemmas.List.{take_more, take_all, take-map, length-map, length-take, get_or-take, get_or-map}
-use Rattle.std.proofs.lemmas.List.Elements.{All-nil, All-push, All-take, All-more}
+use Rattle.std.proofs.lemmas.List.{length-map, length-take, get_or-take, get_or-map}
+use Rattle.std.proofs.lemmas.List.Elements.{All-nil, All-more}
 use Rattle.std.proofs.lemmas.Bool.{cases_lt}
 use Rattle.std.proofs.lemmas.List.Sorted.{All-permutation, IsPermutation-sym, IsPermutation-map}
-use Rattle.clock_calculus.specs.Unify.{Assignment, path, Bindings, bound, Respects, Agrees, IsSolved, FreeIn, AreEquated, CannotEqual, least}
+use Rattle.clock_calculus.specs.Unify.{Assignment, Bindings, bound, Agrees, FreeIn, AreEquated, CannotEqual, least}
 use Rattle.clock_calculus.specs.Numbering.{encoded, equation_of, equations_of, names_of, steps_of}
 use Rattle.clock_calculus.specs.Solving.{Equation, Holds, Solves, IsClash, IsFirstClash, Answers, IsAnswer}
 use Rattle.clock_calculus.specs.Written.{base_term, clock_term, condition_of}
@@ -14,7 +14,6 @@ use Rattle.clock_calculus.specs.declared.conditions.Condition.{Condition}
 use Rattle.clock_calculus.specs.declared.numbers.Numbers.{Numbers}
 use Rattle.clock_calculus.specs.declared.solve.Solution as solution
 use Rattle.clock_calculus.specs.declared.solve.Solution.TheVariants as variant
-use Rattle.clock_calculus.specs.declared.unify.Term.{Term}
 use Rattle.clock_calculus.proofs.Bindings.{least_respects}
 
 pub unbound_push : (b : Bindings) → ((u : ℕ) → bound b u ≡ None) → (u : ℕ) → bound (b ++ None ∷ []) u ≡ None

@@ -1,5 +1,5 @@
 -- Conditions of clocks hold under an assignment of clocks where their equations of terms do, and the other way round.
-use Rattle.std.proofs.Common.{◌≡◌, ℕ, zero, suc, ◌+◌, ◌-◌, ◌<◌, ◌≤◌, List, [], ◌∷◌, ◌++◌, length, map, refl, sym, ◌∙◌, ap, arith, subst, Bool, true, false, if◌then◌else◌, ◌&&◌, ◌||◌, not, ◌⊎◌, inl, inr, append_assoc, append-nil, Some, None, nat_lt, nat_le, slice_index_or, cond}
+use Rattle.std.proofs.Common.{◌≡◌, ℕ, suc, ◌+◌, ◌-◌, ◌<◌, ◌≤◌, List, [], ◌∷◌, ◌++◌, length, map, refl, sym, ◌∙◌, ap, arith, Bool, true, false, if◌then◌else◌, ◌&&◌, ◌||◌, not, inl, inr, append_assoc, append-nil, Some, None, nat_lt, nat_le, slice_index_or, cond}
 use Rattle.std.specs.Prelude.{Option, position, unwrap_or, filter, All, ⊤}
 use Rattle.std.specs.List.{list_any, position_or_len}
 use Rattle.std.proofs.lemmas.Slice.Eq.{bytes_eq-Decides}
@@ -7,7 +7,7 @@ use Rattle.std.proofs.lemmas.Bool.Decides.{nat_tests}
 use Rattle.std.proofs.lemmas.List.{map-append, length-map}
 use Rattle.std.proofs.lemmas.List.Elements.{All-nil, All-cons, All-head, All-tail}
 use Rattle.std.proofs.lemmas.List.Quantifiers.{position-Some}
-use Rattle.hept_ast.specs.Texts.{Name, same, is_in, names}
+use Rattle.hept_ast.specs.Texts.{Name, same, is_in}
 use Rattle.hept_ast.specs.Types.{same_tag}
 use Rattle.hept_ast.specs.Scopes.{Clock}
 use Rattle.hept_ast.specs.Clocks as clocks
@@ -16,9 +16,9 @@ use Rattle.hept_ast.specs.declared.tree.Tag.{Tag}
 use Rattle.hept_ast.specs.declared.tree.Tag.TheVariants as tag
 use Rattle.hept_ast.specs.declared.tree.ClockStep.{ClockStep}
 use Rattle.clock_calculus.specs.Numbering.{same_step, step_number, step_at, clock_path, encoded, equation_of, solved_clock, IsNumbered, KnowsStep}
-use Rattle.clock_calculus.specs.Proper.{HasNumber, IsDeclared, IsOuter, IsProper, AreProper}
+use Rattle.clock_calculus.specs.Proper.{HasNumber, IsDeclared, IsProper, AreProper}
 use Rattle.clock_calculus.specs.Solving.{Equation, Holds, Solves, IsFirstClash}
-use Rattle.clock_calculus.specs.Unify.{Assignment, base_path, path, Bindings, bound, Respects, IsWithin, least, steps_of}
+use Rattle.clock_calculus.specs.Unify.{Assignment, base_path, path, Bindings, IsWithin, least}
 use Rattle.clock_calculus.proofs.Bindings.{least_respects, least_is_least}
 
 -- ---- tests

@@ -4,10 +4,10 @@ use Rattle.std.specs.Prelude.{Option, is_some}
 use Rattle.std.specs.List.{flat_map}
 use Rattle.std.specs.Option.{option_to_list}
 use Rattle.std.proofs.lemmas.List.{take_all, take_more, map-append}
-use Rattle.std.proofs.lemmas.List.Sums.{fold_more, fold-append}
+use Rattle.std.proofs.lemmas.List.Sums.{fold-append}
 use Rattle.hept_ast.specs.Texts.{Name, is_in, names}
 use Rattle.hept_ast.specs.InnerParts.{state_names}
-use Rattle.hept_ast.specs.Parts.{Around, Surroundings, Part, Placed, Case, Block, Plain, Switch, Reset, Automaton, Transition, inside, below, declaration, seen_at, expressions_of, transitions, parts_of, block_parts, state_parts, state_case, branch_case, block_sets, equation_case, strong_of_all, Branch_of, Body_of, State_of, parts, expressions, declared_in, place_of, sets_of}
+use Rattle.hept_ast.specs.Parts.{Surroundings, Placed, Case, Block, Plain, Switch, Reset, Automaton, Transition, inside, below, declaration, seen_at, expressions_of, transitions, parts_of, block_parts, state_parts, state_case, branch_case, block_sets, equation_case, strong_of_all, Branch_of, Body_of, State_of, parts, expressions, declared_in, place_of, sets_of}
 use Rattle.hept_ast.specs.Clocks.{Term, Base, Of, Condition, equal, term_of, expression, defined, declared_on_base, on_base, part_conditions, own_names, numbered}
 use Rattle.hept_ast.specs.declared.tree.Block as b
 use Rattle.hept_ast.specs.declared.tree.Decl.{Decl}
@@ -20,7 +20,7 @@ use Rattle.hept_ast.specs.declared.tree.Branch.{Branch}
 use Rattle.hept_ast.specs.declared.tree.Equation as eq
 use Rattle.hept_ast.specs.declared.name.Place.{Place}
 use Rattle.hept_ast.proofs.PartsOf.{parts-Define, parts-Switch, parts-Reset, parts-Automaton}
-use Rattle.clock_calculus.specs.Collecting.{Collection, added, wrote, after_form, after_operand, after_on_base, after_condition, after_defined, after_plain, after_declared, after_last, after_set, after_part, declaring, empty_collection, of_node}
+use Rattle.clock_calculus.specs.Collecting.{Collection, added, wrote, after_form, after_on_base, after_condition, after_defined, after_plain, after_declared, after_last, after_set, after_part, declaring, empty_collection, of_node}
 use Rattle.clock_calculus.proofs.Collected.{same_collection, wrote_two, wrote_none, wrote_same, added_is, after_one}
 
 -- ---- definitions

@@ -1,10 +1,10 @@
 -- How the conditions of a node are collected: what was collected, after each piece of its text.
-use Rattle.std.specs.Prelude.{ℕ, ◌+◌, Bool, if◌then◌else◌, is_some, List, [], ◌∷◌, ◌++◌, length, map, fold}
+use Rattle.std.specs.Prelude.{ℕ, ◌+◌, if◌then◌else◌, is_some, List, [], ◌∷◌, ◌++◌, length, map, fold}
 use Rattle.std.specs.List.{flat_map}
 use Rattle.std.specs.Option.{option_to_list}
 use Rattle.hept_ast.specs.Texts.{Name, names}
-use Rattle.hept_ast.specs.Parts.{Part, Placed, inside, below, expressions_of, seen_at, declaration, declared_in, expressions, variables}
-use Rattle.hept_ast.specs.Clocks.{Term, Base, Of, On, Condition, equal, read_clock, term_of, reading, outer_read, expression, defined, declared_on_base, on_base, part_conditions, own_names, conditions}
+use Rattle.hept_ast.specs.Parts.{Placed, inside, below, expressions_of, seen_at, declaration, declared_in, expressions, variables}
+use Rattle.hept_ast.specs.Clocks.{Term, Base, Of, On, Condition, equal, read_clock, term_of, reading, outer_read, expression, defined, part_conditions, own_names, conditions}
 use Rattle.hept_ast.specs.declared.tree.Node.{Node}
 use Rattle.hept_ast.specs.declared.tree.Decl.{Decl}
 use Rattle.hept_ast.specs.declared.tree.Expr.{Expr}

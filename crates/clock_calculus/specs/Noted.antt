@@ -1,5 +1,5 @@
 -- What is known of the clocks of nodes.
-use Rattle.std.specs.Prelude.{◌≡◌, ℕ, ◌<◌, Bool, false, if◌then◌else◌, nat_lt, List, slice_get, Some, None, Option, is_some, All, take}
+use Rattle.std.specs.Prelude.{◌≡◌, ℕ, ◌<◌, false, if◌then◌else◌, nat_lt, List, slice_get, Some, None, Option, is_some, All, take}
 use Rattle.hept_ast.specs.Texts.{Name, names}
 use Rattle.hept_ast.specs.Parts.{variables}
 use Rattle.hept_ast.specs.Clocks.{AreLeastClocks, CanMeet, before, conditions, up_to}

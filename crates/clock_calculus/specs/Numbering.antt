@@ -1,5 +1,5 @@
 -- Conditions of clocks as equations of terms: variables and expressions by numbers, and steps by numbers.
-use Rattle.std.specs.Prelude.{◌≡◌, ℕ, ◌+◌, ◌≤◌, Bool, true, ◌&&◌, List, [], ◌∷◌, ◌++◌, length, map, position, unwrap_or, slice_index_or, Option, Some, None, ⊤, All}
+use Rattle.std.specs.Prelude.{◌≡◌, ℕ, ◌+◌, Bool, true, ◌&&◌, List, [], ◌∷◌, ◌++◌, length, map, position, unwrap_or, slice_index_or, Some, None, ⊤, All}
 use Rattle.std.specs.List.{list_any}
 use Rattle.hept_ast.specs.Texts.{Name, same}
 use Rattle.hept_ast.specs.Types.{same_tag}

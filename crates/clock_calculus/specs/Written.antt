@@ -1,5 +1,5 @@
 -- The conditions that code holds, as the definition writes them.
-use Rattle.std.specs.Prelude.{ℕ, List, Option, Some, None}
+use Rattle.std.specs.Prelude.{Option, Some, None}
 use Rattle.hept_ast.specs.Clocks.{Term, Base, Of, Inner, On, Condition}
 use Rattle.clock_calculus.specs.declared.conditions.Base as base
 use Rattle.clock_calculus.specs.declared.conditions.Base.TheVariants as variant

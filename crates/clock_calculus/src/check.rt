@@ -64,7 +64,11 @@ fn node_id(index: usize) -> Result<NodeId, Memory>
 }
 
 /// Notes the clocks of all nodes, or the earliest place of their clashes.
-fn note_nodes(alloc: Global, clocks: &mut Clocks, nodes: &[Node]) -> Result<Option<Place>, Memory>
+pub(crate) fn note_nodes(
+    alloc: Global,
+    clocks: &mut Clocks,
+    nodes: &[Node],
+) -> Result<Option<Place>, Memory>
     requires { clocks.old ≡ [] }
     ensures { IfOk result (IsProgress nodes.now (length nodes.now) clocks.new) }
 {

@@ -1,4 +1,4 @@
-use Rattle.std.proofs.Common.{[], ◌∷◌, map, ◌∙◌, ap, sym}
+use Rattle.std.proofs.Common.{[], ◌∷◌, map, ◌∙◌, ap}
 use Rattle.std.specs.List.{list_any}
 use Rattle.std.proofs.lemmas.List.{map-append}
 use Rattle.clock_calculus.specs.Numbering.{same_step, step_of}

@@ -1,5 +1,5 @@
 use Rattle.std.proofs.Common.{rules}
-use Rattle.clock_calculus.proofs.Solved.{condition_clashes, condition_more, solves_none}
+use Rattle.clock_calculus.proofs.Solved.{condition_clashes, condition_more}
 use Rattle.clock_calculus.proofs.solve.meet_all.Goals as goal
 
 pub returns-then-not-done : goal.returns-then-not-done

@@ -1,5 +1,3 @@
-use Rattle.std.proofs.Common.{ℕ}
-use Rattle.std.specs.Prelude.{IfOk}
 use Rattle.std.proofs.lemmas.List.Sorted.{All-permutation}
 use Rattle.clock_calculus.specs.Numbering.{IsNumbered, names_of, steps_of}
 use Rattle.clock_calculus.specs.Written.{condition_of}

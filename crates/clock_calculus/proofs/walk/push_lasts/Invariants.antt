@@ -1,7 +1,5 @@
-use Rattle.std.proofs.Common.{◌≡◌, fold, take, map}
-use Rattle.clock_calculus.specs.Collecting.{collection, after_condition, after_declared, after_defined, after_last, after_set}
-use Rattle.clock_calculus.specs.Sites.{own_of, seen_of}
-use Rattle.clock_calculus.specs.Written.{base_term}
+use Rattle.std.proofs.Common.{◌≡◌, fold, take}
+use Rattle.clock_calculus.specs.Collecting.{collection, after_last}
 use Rattle.clock_calculus.proofs.walk.push_lasts.Given as goal
 
 abbrev pub invariant-loop-decl : goal.invariant-loop-decl

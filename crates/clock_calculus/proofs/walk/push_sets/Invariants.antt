@@ -1,7 +1,6 @@
 use Rattle.std.proofs.Common.{◌≡◌, fold, take, map}
-use Rattle.clock_calculus.specs.Collecting.{collection, after_condition, after_declared, after_defined, after_last, after_set}
-use Rattle.clock_calculus.specs.Sites.{own_of, seen_of}
-use Rattle.clock_calculus.specs.Written.{base_term}
+use Rattle.clock_calculus.specs.Collecting.{collection, after_set}
+use Rattle.clock_calculus.specs.Sites.{seen_of}
 use Rattle.clock_calculus.proofs.walk.push_sets.Given as goal
 
 abbrev pub invariant-loop-name : goal.invariant-loop-name

@@ -1,4 +1,4 @@
-use Rattle.std.proofs.Common.{◌≡◌, ◌++◌, ◌∷◌, [], map, take}
+use Rattle.std.proofs.Common.{◌≡◌, ◌++◌, map, take}
 use Rattle.clock_calculus.specs.Sites.{around_of}
 use Rattle.clock_calculus.proofs.scope.Scope.within.Given as goal
 
