@@ -1,4 +1,6 @@
-use causality::{AcceptFault, CausalFault, InitFault, accept, check_causal, check_initial};
+use causality::{
+    AcceptFault, CausalFault, InitFault, accept, check_causal, check_initial, cycle_laws,
+};
 use clock_calculus::{ClockFault, check_clocks};
 use ept_reader::read_program;
 use hept_ast::Clocked;
@@ -223,4 +225,9 @@ fn accepted(rt: HostRuntime) {
     for text in ACCEPTED.lines() {
         accepts(&rt, rt.alloc(), text);
     }
+}
+
+#[test]
+fn laws_are_called() {
+    cycle_laws();
 }
