@@ -47,7 +47,7 @@ tag_same : (t : Tag) → same_tag t t ≡ true
 tag_same (tag.Truth b) = same_bool b
 tag_same (tag.Constructor x) = (bytes_eq-Decides x x).1 refl
 
-step_same : (s : ClockStep) → same_step s s ≡ true
+pub step_same : (s : ClockStep) → same_step s s ≡ true
 step_same s = ap (λ t. t && same s.name s.name) (tag_same s.tag) ∙ (bytes_eq-Decides s.name s.name).1 refl
 
 or_second : (a b : Bool) → b ≡ true → (a || b) ≡ true

@@ -39,7 +39,7 @@ tag_true (tag.Truth b) (tag.Constructor y) e = cc
 tag_true (tag.Constructor x) (tag.Truth c) e = cc
 tag_true (tag.Constructor x) (tag.Constructor y) e = ap tag.Constructor ((bytes_eq-Decides x y).0 e)
 
-step_true : (s t : ClockStep) → same_step s t ≡ true → s ≡ t
+pub step_true : (s t : ClockStep) → same_step s t ≡ true → s ≡ t
 step_true s t e =
     let h = both_true (same_tag s.tag t.tag) (same s.name t.name) e in
     ap (λ x. record { tag = x; name = s.name }) (tag_true s.tag t.tag h.0) ∙ ap (λ x. record { tag = t.tag; name = x }) ((bytes_eq-Decides s.name t.name).0 h.1)
