@@ -1,5 +1,5 @@
 -- A program that is served runs to the end of a trace whose lines all spell rows.
-use Rattle.std.proofs.Common.{◌≡◌, ℕ, ◌<◌, ◌≤◌, ◌⊎◌, inl, inr, ⊎_elim, List, length, Option, Some, None, refl, sym, ap, subst, ◌∙◌, arith}
+use Rattle.std.proofs.Common.{◌≡◌, ℕ, ◌<◌, ◌≤◌, ◌⊎◌, inl, inr, ⊎_elim, List, length, Option, Some, None, refl, ap, subst, ◌∙◌, arith}
 use Rattle.hept_ast.specs.declared.tree.Program.{Program}
 use Rattle.hept_io.specs.Outside.{Files, Rose, IsLarge}
 use Rattle.hept_io.specs.LineLaws.{NoneOfNone}
@@ -10,12 +10,10 @@ use Rattle.step_objects.specs.declared.shape.Values.{Values}
 use Rattle.run_messages.specs.Ends.{status_of}
 use Rattle.run_messages.specs.declared.end.End.{End}
 use Rattle.run_messages.specs.declared.end.End.TheVariants.{Ended, Refused, Usage, File, BadRow, Limit, ReadFault, WriteFault, Memory}
-use Rattle.hepasync_top.specs.Words.{file_of}
 use Rattle.hepasync_top.specs.Outputs.{input_shape}
 use Rattle.hepasync_top.specs.LineEnds.{lines_end, FollowsLines}
-use Rattle.hepasync_top.specs.Turns.{RunEnds}
-use Rattle.hepasync_top.specs.Stops.{FileIsNotRead, IsUnforeseen, StopsFor}
-use Rattle.hepasync_top.specs.Run.{IsProgramFile, IsWhole, EndsWhole, Ends, RunsServed}
+use Rattle.hepasync_top.specs.Stops.{FileIsNotRead, IsUnforeseen}
+use Rattle.hepasync_top.specs.Run.{IsProgramFile, EndsWhole, Ends, RunsServed}
 use Rattle.hepasync_top.proofs.Lines.{follows, whole_end}
 use Rattle.hepasync_top.proofs.Refusing.{name_is}
 

@@ -1,6 +1,10 @@
 pub mod Names
 pub mod Compiling
-pub mod Integers
+pub mod RowShapes
+pub mod Among
+pub mod FormsOut
+pub mod TypesOf
+pub mod Steppable
 pub mod Known
 pub mod Body
 pub mod AtInstant

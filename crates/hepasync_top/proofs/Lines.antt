@@ -1,6 +1,5 @@
 -- The end of a run is the one that the lines of the trace come to.
-use Rattle.std.proofs.Common.{◌≡◌, ◌≢◌, ℕ, ◌+◌, ◌<◌, ◌≤◌, Bool, true, false, cond, eqb, nat_lt, ◌⊎◌, inl, inr, ⊎_elim, List, [], ◌∷◌, ◌++◌, length, map, Option, Some, None, Result, Ok, Err, refl, sym, ap, subst, ◌∙◌, arith}
-use Rattle.std.specs.Prelude.{IfSome, ⊤}
+use Rattle.std.proofs.Common.{◌≡◌, ◌≢◌, ℕ, ◌+◌, ◌<◌, ◌≤◌, Bool, true, false, cond, eqb, nat_lt, List, [], ◌∷◌, ◌++◌, length, map, Option, Some, None, Result, Ok, refl, sym, ap, ◌∙◌, arith}
 use Rattle.std.specs.Io.KnownBytes.{IsAtEnd}
 use Rattle.std.proofs.lemmas.Bool.Decides.{nat_tests}
 use Rattle.std.proofs.lemmas.List.{append-nil}
@@ -16,7 +15,7 @@ use Rattle.run_messages.specs.declared.end.End.{End}
 use Rattle.run_messages.specs.declared.end.End.TheVariants.{Ended, Refused, Usage, File, BadRow as Bad_row, Limit, ReadFault, WriteFault, Memory}
 use Rattle.hepasync_top.specs.Outputs.{input_shape}
 use Rattle.hepasync_top.specs.LineEnds.{row_end, lines_end, FollowsLines, FollowsTrace, ReadsWhole}
-use Rattle.hepasync_top.specs.Turns.{AllShort, TakesRows, LosesRows, IsWrong, IsBadLine, NextIsBad, HasNext, EndsAfter, RunEnds}
+use Rattle.hepasync_top.specs.Turns.{AllShort, TakesRows, LosesRows, IsWrong, NextIsBad, HasNext, RunEnds}
 
 apart : (n limit : ℕ) → n < limit → eqb n limit ≡ false
 apart n limit l = grind (arith, nat_tests)

@@ -48,6 +48,9 @@ named_at x (y ∷ xs) h =
     ] in
     step (same x y) refl
 
+pub within_names : (x : Name) (xs : List Name) → is_in x xs ≡ true → place_in x xs < length xs
+within_names x xs h = slice_get_within xs (place_in x xs) x (named_at x xs h)
+
 -- ---- names that all differ
 
 pub in_first : (a b : Bool) → a ≡ true → (a || b) ≡ true
@@ -58,7 +61,7 @@ pub in_rest : (a b : Bool) → b ≡ true → (a || b) ≡ true
 in_rest true b h = refl
 in_rest false b h = h
 
-not_same : (x y : Name) → same y x ≡ false → same x y ≡ false
+pub not_same : (x y : Name) → same y x ≡ false → same x y ≡ false
 not_same x y h = by_bool (same x y) refl
   where
     by_bool : (b : Bool) → same x y ≡ b → same x y ≡ false

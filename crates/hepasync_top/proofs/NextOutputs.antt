@@ -2,7 +2,6 @@
 use Rattle.std.proofs.Common.{◌≡◌, ℕ, ◌+◌, List, [], ◌∷◌, ◌++◌, length, take, drop, map, Option, Some, None, sym, refl, ap, ◌∙◌, subst}
 use Rattle.std.specs.Prelude.{IsSomeAnd}
 use Rattle.std.specs.Option.{option_map}
-use Rattle.hepasync_top.specs.Served.{IsServed}
 use Rattle.hept_ast.specs.Scopes.{Text}
 use Rattle.hept_ast.specs.Settings.{no_marks, no_replies}
 use Rattle.hept_ast.specs.Outputs.{Outputs}
@@ -11,7 +10,7 @@ use Rattle.hept_ast.specs.ErasedScopes.{erased_text}
 use Rattle.hept_ast.specs.Laws.{ErasedKeepsOutputs}
 use Rattle.hept_ast.specs.declared.tree.Node.{Node}
 use Rattle.hept_ast.specs.declared.tree.Program.{Program}
-use Rattle.hepasync_top.specs.Stepping.{GivesRows}
+use Rattle.hepasync_top.specs.Stepping.{GivesRows, IsSteppable}
 use Rattle.hepasync_top.specs.Outputs.{ErasedOutputs, input_shape, output_shape, inputs_shape, outputs_shape, last_text, main_text, plain_setting}
 use Rattle.step_objects.specs.Shapes.{shape_of}
 
@@ -39,8 +38,8 @@ pub written_back : {X : Type 0} (old new : List X) (n : ℕ) → n ≡ length ne
 written_back old new n e = ap (λ k. take k (new ++ drop (length new) old)) e ∙ front new (drop (length new) old)
 
 -- the shapes of the rows of a served program
-pub served_inputs : (p : Program) (served : IsServed p) → input_shape p ≡ shape_of p.types served.node.inputs
+pub served_inputs : (p : Program) (served : IsSteppable p) → input_shape p ≡ shape_of p.types served.node.inputs
 served_inputs p served = ap (λ nodes. inputs_shape p.types (last_text 0 nodes)) served.one
 
-pub served_outputs : (p : Program) (served : IsServed p) → output_shape p ≡ shape_of p.types served.node.outputs
+pub served_outputs : (p : Program) (served : IsSteppable p) → output_shape p ≡ shape_of p.types served.node.outputs
 served_outputs p served = ap (λ nodes. outputs_shape p.types (last_text 0 nodes)) served.one

@@ -1,3 +1,4 @@
+pub mod Typing
 pub mod Terms
 pub mod Stepping
 pub mod Stops

@@ -1,9 +1,8 @@
 -- What is made before the trace is first read, and what its turns do.
-use Rattle.std.specs.Prelude.{◌≡◌, ℕ, ◌<◌, ◌≤◌, ◌^◌, All, false, length, List, [], ◌∷◌, ◌++◌, vec_len, Option, Result, Ok, Err, IfSome}
+use Rattle.std.specs.Prelude.{◌≡◌, ℕ, ◌<◌, ◌≤◌, ◌^◌, false, length, List, [], ◌∷◌, ◌++◌, vec_len, Option, Result, Ok, Err, IfSome}
 use Rattle.std.specs.Io.KnownBytes.{Appends, Keeps, IsAtEnd}
 use Rattle.hept_ast.specs.declared.tree.Program.{Program}
 use Rattle.step_objects.specs.declared.shape.Values.{Values}
-use Rattle.step_objects.specs.declared.shape.Values.TheVariants.{Numbers}
 use Rattle.step_cells.specs.declared.cell.Cell.{Cell}
 use Rattle.hept_io.specs.Outside.{Files}
 use Rattle.hept_io.specs.Lines.{Reading, to_come}
@@ -17,15 +16,23 @@ use Rattle.hepasync_top.specs.declared.machine.Machine.{Machine}
 use Rattle.run_messages.specs.declared.end.End.{End}
 use Rattle.run_messages.specs.declared.end.End.TheVariants.{Ended, BadRow, Limit, ReadFault, WriteFault}
 
+-- it has done the instants of some rows of a program
+pub record HasProgram (m : Machine) : Type 0 where
+  pub program : Program
+  pub rows : List (List ℕ)
+  pub stands : Stands program rows m.stepper
+  pub input_shape : m.inputs ≡ input_shape program
+  pub output_shape : m.outputs ≡ output_shape program
+
 -- it may do a turn
 pub record CanTurn (m : Machine) : Type 0 where
   pub goes_on : m.reader.is_spent ≡ false
   pub ready : IsReady m.stepper
+  pub program : HasProgram m
   pub inputs : length m.inputs ≡ m.stepper.inputs
   pub few : length m.inputs < 2 ^ 32
   pub row : vec_len m.row ≡ m.stepper.inputs
   pub outputs : length m.outputs ≡ m.stepper.outputs
-  pub numbers : All (λ values. values ≡ Numbers) m.outputs
   pub values : vec_len m.values ≡ m.stepper.outputs
   pub writer : widest_row m.outputs ≤ m.writer
 

@@ -10,14 +10,27 @@ use Rattle.run_messages.specs.declared.end.End.TheVariants.{Refused, Usage, File
 use Rattle.run_messages.specs.declared.end.FileFault.{FileFault}
 use Rattle.run_messages.specs.declared.end.FileFault.TheVariants.{Failed, TooLarge, Missing}
 use Rattle.run_messages.specs.declared.end.Refusal.{Refusal}
-use Rattle.run_messages.specs.declared.end.Refusal.TheVariants.{BadByte, OpenComment, NumberTooLarge, Unexpected, TooDeep, UnknownName, Duplicate, Mismatch, ZeroDivisor, Recursive, NotDefined, FutureKept, NestedAsync, Limit, NoNode, FutureInterface, NotServed}
+use Rattle.run_messages.specs.declared.end.Refusal.TheVariants.{BadByte, OpenComment, NumberTooLarge, Unexpected, TooDeep, UnknownName, Duplicate, Mismatch, ZeroDivisor, Recursive, NotDefined, FutureKept, NestedAsync, Limit, NoNode, FutureInterface, NoClock, MayBeNil, Cycle, NotServed}
 use Rattle.type_futures.specs.declared.check.TypeFault.{TypeFault}
 use Rattle.type_futures.specs.declared.check.TypeFault.TheVariants as typing
 use Rattle.type_futures.specs.declared.choice.TopFault.{TopFault}
 use Rattle.type_futures.specs.declared.choice.TopFault.TheVariants as choosing
 use Rattle.type_futures.specs.Checked.{IsTypeFault}
 use Rattle.type_futures.specs.Chosen.{IsChosen, IsTopFault}
+use Rattle.clock_calculus.specs.Checked.{HasNoClock}
+use Rattle.clock_calculus.specs.declared.check.ClockFault.{ClockFault}
+use Rattle.clock_calculus.specs.declared.check.ClockFault.TheVariants as clocking
+use Rattle.causality.specs.declared.acceptance.AcceptFault.{AcceptFault}
+use Rattle.causality.specs.declared.acceptance.AcceptFault.TheVariants as accepting
+use Rattle.causality.specs.declared.initial.InitFault.TheVariants as starting
+use Rattle.causality.specs.declared.causal.CausalFault.TheVariants as reading_in_turn
 use Rattle.hept_ast.specs.Limits.{all_faults}
+use Rattle.hept_ast.specs.Causal.{IsCausal, IsKeptCycle}
+use Rattle.hept_ast.specs.ClockMaps.{ClockMap, clock_in}
+use Rattle.hept_ast.specs.Initial.{IsInitialised, IsMayBeNil}
+use Rattle.hept_ast.specs.Stages.{HasLeastClocks}
+use Rattle.hept_ast.specs.Texts.{Name}
+use Rattle.hept_ast.specs.declared.name.Place.{Place}
 use Rattle.hepasync_top.specs.Served.{IsServed}
 use Rattle.hepasync_top.specs.Words.{file_of}
 
@@ -67,17 +80,44 @@ end_of_choice (choosing.FutureInterface at) = Refused (FutureInterface at)
 abbrev pub HasMain : Program → Type 0
 HasMain p = (k : ℕ) × IsChosen p.nodes None k
 
+-- how a run ends of a program without clocks
+abbrev pub end_of_clocks : ClockFault → End
+end_of_clocks (clocking.NoClock at) = Refused (NoClock at)
+end_of_clocks clocking.Memory = Memory
+
+-- how a run ends of a program that may read an undefined value, or has a cycle of reads
+abbrev pub end_of_acceptance : AcceptFault → End
+end_of_acceptance (accepting.Initial (starting.MayBeNil at)) = Refused (MayBeNil at)
+end_of_acceptance (accepting.Initial starting.Memory) = Memory
+end_of_acceptance (accepting.Causal (reading_in_turn.Cycle node vars)) = Refused (Cycle vars)
+end_of_acceptance (accepting.Causal reading_in_turn.Memory) = Memory
+
+-- The program is well clocked, and with its least clocks it is initialised and causal.
+pub record IsSound (p : Program) : Type 0 where
+  pub clocks : ClockMap
+  pub least : HasLeastClocks p clocks
+  pub initialised : IsInitialised p
+  pub causal : IsCausal p (clock_in clocks)
+
 -- nothing is wrong with the program, and it is one that is run so far
 pub record IsRunnable (p : Program) : Type 0 where
   pub clean : all_faults p ≡ []
   pub main : HasMain p
+  pub sound : IsSound p
   pub served : IsServed p
 
--- Why a program that was read isn't run: the first of its faults, no node to run, or that it isn't one that is run so far.
+-- Why a well-typed program isn't accepted: it has no clocks, may read an undefined value, or has a cycle of reads with its least clocks.
+pub data IsRefusedByReads (p : Program) : Refusal → Type 0 where
+  by_clocks : {r : Refusal} (at : Place) → HasNoClock p at.0 → r ≡ NoClock at → IsRefusedByReads p r
+  by_initial : {r : Refusal} (at : Place) (clocks : ClockMap) → HasLeastClocks p clocks → IsMayBeNil p at.0 → r ≡ MayBeNil at → IsRefusedByReads p r
+  by_causal : {r : Refusal} (node : ℕ) (vars : List Name) (clocks : ClockMap) → HasLeastClocks p clocks → IsInitialised p → IsKeptCycle p (clock_in clocks) node vars → r ≡ Cycle vars → IsRefusedByReads p r
+
+-- Why a program that was read isn't run: the first of its faults, no node to run, what it reads, or that it isn't one that is run so far.
 pub data IsRefusedProgram (p : Program) : Refusal → Type 0 where
   by_types : {r : Refusal} (t : TypeFault) → IsTypeFault p t → end_of_types t ≡ Refused r → IsRefusedProgram p r
   by_choice : {r : Refusal} (t : TopFault) → all_faults p ≡ [] → IsTopFault p.nodes None t → end_of_choice t ≡ Refused r → IsRefusedProgram p r
-  by_form : {r : Refusal} → all_faults p ≡ [] → HasMain p → (IsServed p → ⊥) → r ≡ NotServed → IsRefusedProgram p r
+  by_reads : {r : Refusal} → all_faults p ≡ [] → HasMain p → IsRefusedByReads p r → IsRefusedProgram p r
+  by_form : {r : Refusal} → all_faults p ≡ [] → HasMain p → IsSound p → (IsServed p → ⊥) → r ≡ NotServed → IsRefusedProgram p r
 
 -- The bytes are no text of a program.
 abbrev pub IsUnreadText : List ℕ → Refusal → Type 0

@@ -1,29 +1,31 @@
-ghost use Rattle.std.specs.Prelude.{◌≡◌, ◌++◌, ◌∷◌, [], All, length, IfOk, OnErr, OnOk};
-ghost use Rattle.hept_ast.specs.Texts.{const_value, names, place_in};
-ghost use Rattle.hepasync_top.specs.Served.{ServedExpr};
-ghost use Rattle.hepasync_top.specs.Stepping.{Assigns, IsAssignmentOf, IsServedEquation};
+ghost use Rattle.std.specs.Prelude.{◌≡◌, ◌≢◌, ◌++◌, ◌∷◌, [], ℤ, pos, All, length, IfOk, OnErr, OnOk};
+ghost use Rattle.hept_ast.specs.Texts.{const_value, constructor_value, names, place_in};
+ghost use Rattle.hepasync_top.specs.Stepping.{AddsRightOperands, AllRightOperands, Assigns, IsAssignmentOf, IsTypedEquation};
 ghost use Rattle.hepasync_top.specs.Terms.{
-  EachStands,
+  AddsRightOperand,
   Extends,
-  IsInside,
-  IsNumber,
-  IsSumOrDifference,
+  IsTypedOver,
   StandsFor,
+  Takes,
   declared_names,
   term_value,
 };
 
-use hept_ast::{BinaryOp, Const, Decl, Equation, Expr, Form, Memory, Name, Node};
+use hept_ast::{
+    BinaryOp, Const, Decl, Equation, Expr, Form, Memory, Name, Node, TypeDec, UnaryOp, binary,
+    unary,
+};
 use sqlite_items::Items;
 use std::alloc::{AllocError, Global};
 
 /// A right side over the positions of variables and cells.
 #[derive(Drop)]
 pub(crate) enum Term {
-    Number(u32),
+    Constant(u32),
     Variable(usize),
-    Add(Box<Term>, Box<Term>),
-    Sub(Box<Term>, Box<Term>),
+    Unary(UnaryOp, Box<Term>),
+    Binary(BinaryOp, Box<Term>, Box<Term>),
+    If(Box<Term>, Box<Term>, Box<Term>),
     /// What the cell holds, or the first operand where it is empty.
     Fby(usize, Box<Term>),
 }
@@ -37,14 +39,21 @@ pub(crate) struct Assignment {
 
 impl Term {
     pub(crate) fn value(&self, cells: &[Option<u32>], values: &[u32]) -> u32
-        requires { IsInside (length cells.now) (length values.now) self.now }
+        requires { Takes cells.now values.now self.now }
         ensures { result ≡ term_value cells.now values.now self.now }
     {
         match self {
-            Term::Number(n) => *n,
+            Term::Constant(n) => *n,
             Term::Variable(i) => values[*i],
-            Term::Add(a, b) => a.value(cells, values).wrapping_add(b.value(cells, values)),
-            Term::Sub(a, b) => a.value(cells, values).wrapping_sub(b.value(cells, values)),
+            Term::Unary(op, a) => unary(*op, a.value(cells, values)),
+            Term::Binary(op, a, b) => binary(*op, a.value(cells, values), b.value(cells, values)),
+            Term::If(condition, a, b) => {
+                if condition.value(cells, values) == 1 {
+                    a.value(cells, values)
+                } else {
+                    b.value(cells, values)
+                }
+            }
             Term::Fby(cell, first) => match cells[*cell] {
                 Some(kept) => kept,
                 None => first.value(cells, values),
@@ -87,26 +96,35 @@ pub(crate) fn position(names: &[Name], name: &Name) -> usize
     names.len()
 }
 
-/// The bits of a number in two's complement.
-fn bits(number: &Const) -> u32
-    requires { IsNumber number.now }
-    ensures { result ≡ const_value [] number.now }
+/// The position of a constructor in the first type that declares it, and 0 where none does.
+fn constructor(types: &[TypeDec], name: &Name) -> usize
+    ensures { result ≡ constructor_value types.now name.now }
 {
-    match number {
-        Const::Number(z) => z.cast_unsigned(),
-        _ => unreachable!(),
+    for ty in types {
+        let constructors = ty.constructors.as_slice();
+        let place = position(constructors, name);
+        if place < constructors.len() {
+            return place;
+        }
     }
+    0
 }
 
-fn operation(op: BinaryOp, a: Box<Term>, b: Box<Term>) -> Term
-    requires { IsSumOrDifference op }
-    ensures sum { op ≡ BinaryOp.Add → result ≡ Term.Add a b }
-    ensures difference { op ≡ BinaryOp.Sub → result ≡ Term.Sub a b }
+/// The value of a constant. A type within the limits has few enough constructors for each to be one.
+fn constant(types: &[TypeDec], constant: &Const) -> Result<u32, Memory>
+    ensures value { IfOk result (λ v. v ≡ const_value types.now constant.now) }
+    ensures nonzero { IfOk result (λ v. (z : ℤ) → constant.now ≡ Const.Number z → z ≢ pos 0 → v ≢ 0) }
 {
-    match op {
-        BinaryOp::Add => Term::Add(a, b),
-        BinaryOp::Sub => Term::Sub(a, b),
-        _ => unreachable!(),
+    match constant {
+        Const::Number(z) => Ok(z.cast_unsigned()),
+        Const::Truth(b) => Ok(u32::from(*b)),
+        Const::Constructor(name) => {
+            let place = constructor(types, name);
+            if place > u32::MAX as usize {
+                return Err(Memory);
+            }
+            Ok(place as u32)
+        }
     }
 }
 
@@ -126,30 +144,46 @@ pub(crate) fn push<T: Drop>(items: &mut Vec<T>, item: T) -> Result<(), Memory>
 
 /// The term of an expression over the positions of the variables. The right operands of its `fby`s are
 /// added to `next`.
+#[tactic(auto, using(crate::proofs::Compiling::right_over))]
 pub(crate) fn compile(
     alloc: Global,
     e: &Expr,
+    types: &[TypeDec],
     variables: &[Name],
     next: &mut Vec<Term>,
 ) -> Result<Term, Memory>
-    requires { ServedExpr variables.now variables.now e.now }
+    requires { IsTypedOver types.now variables.now e.now }
     ensures grows { Extends next.old.items next.new.items }
-    ensures term { IfOk result (λ m. StandsFor variables.now next.new.items m e.now) }
-    ensures right_operands { OnOk result (EachStands variables.now next.old.items → EachStands variables.now next.new.items) }
+    ensures term { IfOk result (λ m. StandsFor types.now variables.now next.new.items m e.now) }
+    ensures right_operands { OnOk result (AddsRightOperand types.now variables.now e.now next.old.items next.new.items) }
 {
     match &e.form {
-        Form::Const(k) => Ok(Term::Number(bits(k))),
+        Form::Const(k) => Ok(Term::Constant(constant(types, k)?)),
         Form::Var(x) => Ok(Term::Variable(position(variables, x))),
+        Form::Unary(op, a) => {
+            let a = compile(alloc, a.get(), types, variables, next)?;
+            let a = boxed(alloc, a)?;
+            Ok(Term::Unary(*op, a))
+        }
         Form::Binary(op, a, b) => {
-            let a = compile(alloc, a.get(), variables, next)?;
-            let b = compile(alloc, b.get(), variables, next)?;
+            let a = compile(alloc, a.get(), types, variables, next)?;
+            let b = compile(alloc, b.get(), types, variables, next)?;
             let a = boxed(alloc, a)?;
             let b = boxed(alloc, b)?;
-            Ok(operation(*op, a, b))
+            Ok(Term::Binary(*op, a, b))
+        }
+        Form::If(condition, a, b) => {
+            let condition = compile(alloc, condition.get(), types, variables, next)?;
+            let a = compile(alloc, a.get(), types, variables, next)?;
+            let b = compile(alloc, b.get(), types, variables, next)?;
+            let condition = boxed(alloc, condition)?;
+            let a = boxed(alloc, a)?;
+            let b = boxed(alloc, b)?;
+            Ok(Term::If(condition, a, b))
         }
         Form::Fby(a, b) => {
-            let first = compile(alloc, a.get(), variables, next)?;
-            let later = compile(alloc, b.get(), variables, next)?;
+            let first = compile(alloc, a.get(), types, variables, next)?;
+            let later = compile(alloc, b.get(), types, variables, next)?;
             let first = boxed(alloc, first)?;
             let cell = next.len();
             push(next, later)?;
@@ -163,19 +197,20 @@ pub(crate) fn compile(
 fn compile_equation(
     alloc: Global,
     equation: &Equation,
+    types: &[TypeDec],
     variables: &[Name],
     next: &mut Vec<Term>,
 ) -> Result<Assignment, Memory>
-    requires { IsServedEquation variables.now equation.now }
+    requires { IsTypedEquation types.now variables.now equation.now }
     ensures grows { Extends next.old.items next.new.items }
-    ensures assigns { IfOk result (λ q. IsAssignmentOf variables.now next.new.items q equation.now) }
-    ensures right_operands { OnOk result (EachStands variables.now next.old.items → EachStands variables.now next.new.items) }
+    ensures assigns { IfOk result (λ q. IsAssignmentOf types.now variables.now next.new.items q equation.now) }
+    ensures right_operands { OnOk result (AddsRightOperands types.now variables.now equation.now next.old.items next.new.items) }
 {
     match equation {
         Equation::Define { left, right, .. } => {
             let left = left.as_slice();
             let variable = position(variables, &left[0]);
-            let right = compile(alloc, right, variables, next)?;
+            let right = compile(alloc, right, types, variables, next)?;
             Ok(Assignment { variable, right })
         }
         _ => unreachable!(),
@@ -186,16 +221,17 @@ fn compile_equation(
 pub(crate) fn compile_body(
     alloc: Global,
     body: &[Equation],
+    types: &[TypeDec],
     variables: &[Name],
     next: &mut Vec<Term>,
 ) -> Result<Vec<Assignment>, Memory>
-    requires { All (IsServedEquation variables.now) body.now }
-    ensures assigns { IfOk result (λ qs. Assigns variables.now next.new.items qs.items body.now) }
-    ensures right_operands { OnOk result (EachStands variables.now next.old.items → EachStands variables.now next.new.items) }
+    requires { All (IsTypedEquation types.now variables.now) body.now }
+    ensures assigns { IfOk result (λ qs. Assigns types.now variables.now next.new.items qs.items body.now) }
+    ensures right_operands { OnOk result (AllRightOperands types.now variables.now body.now next.old.items next.new.items) }
 {
     let mut all = Vec::new(alloc);
     for equation in body {
-        let assignment = compile_equation(alloc, equation, variables, next)?;
+        let assignment = compile_equation(alloc, equation, types, variables, next)?;
         push(&mut all, assignment)?;
     }
     Ok(all)

@@ -1,5 +1,5 @@
 //! What is made before the trace is first read, and the turns over it.
-ghost use Rattle.std.specs.Prelude.{◌≡◌, ℕ, ◌≤◌, ◌<◌, ◌^◌, false, List, ◌∷◌, ◌++◌, [], Err, length};
+ghost use Rattle.std.specs.Prelude.{◌≡◌, ℕ, ◌≤◌, ◌<◌, ◌^◌, false, List, ◌∷◌, ◌++◌, [], Err, OnOk, length};
 ghost use Rattle.hept_io.specs.Lines.{to_come};
 ghost use Rattle.hept_io.specs.Outside.{Rose};
 ghost use Rattle.step_objects.specs.Shapes.{FitsShape};
@@ -29,6 +29,7 @@ pub(crate) struct Machine {
 impl Machine {
     ghost use Rattle.std.specs.Prelude.{◌≡◌, ℕ, ◌≤◌, List, ◌∷◌, ◌++◌, [], Err, OnOk, IfOk};
     ghost use Rattle.hept_ast.specs.declared.tree.Program.{Program};
+    ghost use Rattle.hept_ast.specs.Limits.{all_faults};
     ghost use Rattle.hepasync_top.specs.Served.{IsServed};
     ghost use Rattle.hept_io.specs.Lines.{to_come};
     ghost use Rattle.hept_io.specs.Outside.{Rose};
@@ -37,7 +38,8 @@ impl Machine {
 
     /// Makes all that takes memory, for a program.
     pub(crate) fn new(alloc: Global, program: &Program) -> Result<Machine, Memory>
-        requires { IsServed program.now }
+        requires clean { all_faults program.now ≡ [] }
+        requires served { IsServed program.now }
         ensures can { IfOk result (λ m. CanTurn m) }
         ensures done { IfOk result (λ m. HasDone program.now m [] []) }
         ensures pending { IfOk result (λ m. m.reader.pending ≡ []) }
@@ -70,7 +72,8 @@ impl Machine {
 
     /// Does the instant of the row.
     fn step(&mut self)
-        requires { CanTurn self.old }
+        requires can { CanTurn self.old }
+        requires row { FitsShape self.old.inputs self.old.row.items }
         ensures can { CanTurn self.new }
         ensures reader { self.new.reader ≡ self.old.reader }
         ensures done { (p : Program) (rows outs : List (List ℕ)) → HasDone p self.old rows outs →
@@ -152,6 +155,7 @@ fn read_line<S: Source>(
     requires few { length shape.now < 2 ^ 32 }
     requires row { length row.old ≡ length shape.now }
     ensures row { ReadsRow shape.now number reader.old (S.left trace.old) result reader.new (S.left trace.new) row.new }
+    ensures fits { OnOk result (FitsShape shape.now row.new) }
     ensures cause { result ≡ Err End.ReadFault → Rose (S.faults trace.old) (S.faults trace.new) }
     ensures count { S.faults trace.old ≤ S.faults trace.new }
 {

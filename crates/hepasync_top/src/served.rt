@@ -1,13 +1,10 @@
 //! Whether a program is one that is run so far.
-ghost use Rattle.std.specs.Prelude.{true, ◌≡◌, ◌⊎◌, ◌↔◌, [], ◌∷◌, ◌++◌, ℕ, List, All, IsTrue, IfOk, OnOk, MatchOption};
-ghost use Rattle.std.specs.List.{IsDistinct};
-ghost use Rattle.hept_ast.specs.Texts.{is_in, names as names_of, same};
-ghost use Rattle.hepasync_top.specs.Served.{IsInteger, IsServed, ServedBody, ServedExpr};
-ghost use Rattle.hepasync_top.specs.Serving.{Defines, IsNumber, IsServedNode};
+ghost use Rattle.std.specs.Prelude.{true, ◌≡◌, ◌↔◌, [], ◌∷◌, ◌++◌, List, ℕ, All, IsTrue, IfOk, OnOk, MatchOption};
+ghost use Rattle.hept_ast.specs.Texts.{is_in, names as names_of};
+ghost use Rattle.hepasync_top.specs.Served.{IsPlain, IsServed, IsServedNode, ServedBody, ServedExpr};
+ghost use Rattle.hepasync_top.specs.Serving.{Defines};
 
-use hept_ast::{
-    BinaryOp, Const, Decl, Equation, Expr, Form, Memory, Name, Node, Plain, Program, Ty,
-};
+use hept_ast::{Decl, Equation, Expr, Form, Memory, Name, Node, Program, Ty};
 use sqlite_items::Items;
 use std::alloc::Global;
 
@@ -23,47 +20,23 @@ fn contains(mut names: &[Name], name: &Name) -> bool
     false
 }
 
-fn are_distinct(mut names: &[Name]) -> bool
-    ensures { IsTrue result ↔ IsDistinct same names.entry.now }
-{
-    while let [first, rest @ ..] = names {
-        if contains(rest, first) {
-            return false;
-        }
-        names = rest;
-    }
-    true
-}
-
-fn are_all_in(mut names: &[Name], others: &[Name]) -> bool
-    ensures { IsTrue result ↔ All (λ x. is_in x others.now ≡ true) names.entry.now }
-{
-    while let [first, rest @ ..] = names {
-        if !contains(others, first) {
-            return false;
-        }
-        names = rest;
-    }
-    true
-}
-
-fn is_integer(decl: &Decl) -> bool
-    ensures { IsTrue result ↔ IsInteger decl.now }
+fn is_plain(decl: &Decl) -> bool
+    ensures { IsTrue result ↔ IsPlain decl.now }
 {
     if decl.init.is_some() {
         return false;
     }
     match &decl.ty {
-        Ty::Plain(Plain::Int) => true,
-        _ => false,
+        Ty::Plain(_) => true,
+        Ty::Future(_) => false,
     }
 }
 
-fn are_integers(mut decls: &[Decl]) -> bool
-    ensures { IsTrue result ↔ All IsInteger decls.entry.now }
+fn are_plain(mut decls: &[Decl]) -> bool
+    ensures { IsTrue result ↔ All IsPlain decls.entry.now }
 {
     while let [first, rest @ ..] = decls {
-        if !is_integer(first) {
+        if !is_plain(first) {
             return false;
         }
         decls = rest;
@@ -95,34 +68,29 @@ fn push_names(alloc: Global, names: &mut Items<Name>, decls: &[Decl]) -> Result<
     Ok(())
 }
 
-fn is_sum_sign(sign: BinaryOp) -> bool
-    ensures { IsTrue result ↔ ((sign ≡ BinaryOp.Add) ⊎ (sign ≡ BinaryOp.Sub)) }
-{
-    matches!(sign, BinaryOp::Add | BinaryOp::Sub)
-}
-
-fn is_number(value: &Const) -> bool
-    ensures { IsTrue result ↔ IsNumber value.now }
-{
-    matches!(value, Const::Number(_))
-}
-
-/// Whether an expression is one of number constants, variables, `+`, `-` and `fby`, which reads what is
+/// Whether an expression is one of constants, variables, operators, `if` and `fby`, which reads what is
 /// known, and in the right operand of a `fby` what is declared.
 fn is_served_expr(declared: &[Name], known: &[Name], expr: &Expr) -> bool
     ensures { IsTrue result ↔ ServedExpr declared.now known.now expr.now }
 {
     match &expr.form {
-        Form::Const(value) => is_number(value),
+        Form::Const(_) => true,
         Form::Var(name) => contains(known, name),
-        Form::Binary(sign, left, right) => {
-            if !is_sum_sign(*sign) {
-                return false;
-            }
+        Form::Unary(_, operand) => is_served_expr(declared, known, operand.get()),
+        Form::Binary(_, left, right) => {
             if !is_served_expr(declared, known, left.get()) {
                 return false;
             }
             is_served_expr(declared, known, right.get())
+        }
+        Form::If(condition, then, otherwise) => {
+            if !is_served_expr(declared, known, condition.get()) {
+                return false;
+            }
+            if !is_served_expr(declared, known, then.get()) {
+                return false;
+            }
+            is_served_expr(declared, known, otherwise.get())
         }
         Form::Fby(left, right) => {
             if !is_served_expr(declared, known, left.get()) {
@@ -153,30 +121,26 @@ fn defined_name<'a>(declared: &[Name], known: &[Name], equation: &'a Equation) -
     }
 }
 
-/// The names that the equations define, in their order, where all of them are served.
-fn defined_names(
+/// Whether all equations are served, each of which may read the inputs and what earlier ones define.
+fn is_served_body(
     alloc: Global,
     declared: &[Name],
     inputs: &[Decl],
     body: &[Equation],
-) -> Result<Option<Items<Name>>, Memory>
-    ensures { IfOk result (λ o. MatchOption o
-        ((ds : List (List ℕ)) → ServedBody declared.now (names_of inputs.now) body.now ds → ⊥)
-        (λ ds. ServedBody declared.now (names_of inputs.now) body.now ds)) }
+) -> Result<bool, Memory>
+    ensures { IfOk result (λ b. IsTrue b ↔ ServedBody declared.now (names_of inputs.now) body.now) }
 {
     let mut known = Items::new(alloc);
     push_names(alloc, &mut known, inputs)?;
-    let mut defined = Items::new(alloc);
     let mut rest = body;
     'body: while let Some((first, after)) = rest.split_first() {
         let Some(name) = defined_name(declared, known.as_slice(), first) else {
-            return Ok(None);
+            return Ok(false);
         };
         push_name(alloc, &mut known, name)?;
-        push_name(alloc, &mut defined, name)?;
         rest = after;
     }
-    Ok(Some(defined))
+    Ok(true)
 }
 
 fn is_served_node(alloc: Global, node: &Node) -> Result<bool, Memory>
@@ -185,58 +149,32 @@ fn is_served_node(alloc: Global, node: &Node) -> Result<bool, Memory>
     let inputs = node.inputs.as_slice();
     let outputs = node.outputs.as_slice();
     let locals = node.block.locals.as_slice();
-    if !are_integers(inputs) {
+    if !are_plain(inputs) {
         return Ok(false);
     }
-    if !are_integers(outputs) {
+    if !are_plain(outputs) {
         return Ok(false);
     }
-    if !are_integers(locals) {
+    if !are_plain(locals) {
         return Ok(false);
     }
-    let mut own = Items::new(alloc);
-    push_names(alloc, &mut own, outputs)?;
-    push_names(alloc, &mut own, locals)?;
     let mut declared = Items::new(alloc);
     push_names(alloc, &mut declared, inputs)?;
     push_names(alloc, &mut declared, outputs)?;
     push_names(alloc, &mut declared, locals)?;
-    if !are_distinct(declared.as_slice()) {
-        return Ok(false);
-    }
-    match defined_names(
+    is_served_body(
         alloc,
         declared.as_slice(),
         inputs,
         node.block.body.as_slice(),
-    )? {
-        None => Ok(false),
-        Some(defined) => Ok(are_each_once(own.as_slice(), defined.as_slice())),
-    }
+    )
 }
 
-/// Whether the one list has each name of the other once, and no others.
-fn are_each_once(own: &[Name], defined: &[Name]) -> bool
-    ensures { IsTrue result ↔ (IsDistinct same defined.now
-        × All (λ x. is_in x own.now ≡ true) defined.now
-        × All (λ x. is_in x defined.now ≡ true) own.now) }
-{
-    if !are_distinct(defined) {
-        return false;
-    }
-    if !are_all_in(defined, own) {
-        return false;
-    }
-    are_all_in(own, defined)
-}
-
-/// Whether a program is one that is run so far: one node of integers.
+/// Whether a program is one that is run so far: one node of constants, variables, operators, `if` and
+/// `fby`.
 pub fn is_served(alloc: Global, program: &Program) -> Result<bool, Memory>
     ensures { IfOk result (λ b. IsTrue b ↔ IsServed program.now) }
 {
-    if !program.types.is_empty() {
-        return Ok(false);
-    }
     match program.nodes.as_slice() {
         [node] => is_served_node(alloc, node),
         _ => Ok(false),

@@ -1,16 +1,19 @@
 ghost use Rattle.std.specs.Prelude.{◌≡◌, ℕ, ◌++◌, ◌∷◌, [], List, Some, None, All, EachIndex, IfOk, ◌≤◌, length, map, replicate, slice_index};
 ghost use Rattle.hept_ast.specs.declared.tree.Program.{Program};
+ghost use Rattle.hept_ast.specs.Limits.{all_faults};
 ghost use Rattle.hepasync_top.specs.Served.{IsServed};
-ghost use Rattle.step_objects.specs.Shapes.{IsValueOf};
+ghost use Rattle.step_objects.specs.Shapes.{FitsShape, IsValueOf};
 ghost use Rattle.step_cells.specs.Cells.{row_of};
 ghost use Rattle.step_objects.specs.declared.shape.Values.TheVariants.{Numbers};
-ghost use Rattle.hepasync_top.specs.Terms.{IsInside, term_value};
+ghost use Rattle.hepasync_top.specs.Outputs.{input_shape, output_shape};
+ghost use Rattle.hepasync_top.specs.Terms.{Takes, term_value};
 ghost use Rattle.hepasync_top.specs.Stepping.{
+  CanStep,
   GivesLast,
   GivesRows,
-  IsAssignmentInside,
   IsReady,
   MakesKnown,
+  MayAssign,
   Stands,
 };
 
@@ -65,7 +68,7 @@ fn give_row(out: &mut [Cell], values: &[u32])
 }
 
 fn assign(equations: &[Assignment], cells: &[Option<u32>], values: &mut [u32])
-    requires { All (IsAssignmentInside (length cells.now) (length values.old)) equations.now }
+    requires { MayAssign equations.now cells.now values.old }
     ensures { MakesKnown equations.now cells.now values.old values.new }
 {
     for equation in equations {
@@ -74,7 +77,7 @@ fn assign(equations: &[Assignment], cells: &[Option<u32>], values: &mut [u32])
 }
 
 fn remember(next: &[Term], cells: &[Option<u32>], values: &[u32], following: &mut [Option<u32>])
-    requires inside { All (IsInside (length cells.now) (length values.now)) next.now }
+    requires takes { All (Takes cells.now values.now) next.now }
     requires room { length following.old ≡ length next.now }
     ensures { following.new ≡ map (λ m. Some (term_value cells.now values.now m)) next.now }
 {
@@ -85,7 +88,8 @@ fn remember(next: &[Term], cells: &[Option<u32>], values: &[u32], following: &mu
 
 impl Stepper {
     pub(crate) fn new(alloc: Global, program: &Program) -> Result<Stepper, Memory>
-        requires { IsServed program.now }
+        requires clean { all_faults program.now ≡ [] }
+        requires served { IsServed program.now }
         ensures stands { IfOk result (λ s. Stands program.now [] s) }
         ensures rows { GivesRows program.now [] [] }
     {
@@ -93,7 +97,8 @@ impl Stepper {
         let variables = variables_of(alloc, node)?;
         let mut next = Vec::new(alloc);
         let body = node.block.body.as_slice();
-        let equations = compile_body(alloc, body, variables.as_slice(), &mut next)?;
+        let types = program.types.as_slice();
+        let equations = compile_body(alloc, body, types, variables.as_slice(), &mut next)?;
         let values = filled(alloc, 0, variables.len())?;
         let cells = filled(alloc, None, next.len())?;
         let following = filled(alloc, None, next.len())?;
@@ -125,16 +130,16 @@ impl Stepper {
     /// Steps the equations in the order of the text.
     pub(crate) fn instant(&mut self, row: &[Cell], out: &mut [Cell])
         requires ready { IsReady self.old }
-        requires row { length row.now ≡ self.old.inputs }
+        requires stands { CanStep self.old row.now }
         requires out { length out.old ≡ self.old.outputs }
         ensures ready { IsReady self.new }
         ensures inputs { self.new.inputs ≡ self.old.inputs }
         ensures outputs { self.new.outputs ≡ self.old.outputs }
-        ensures steps { (p : Program) (rows : List (List ℕ)) → Stands p rows self.old →
+        ensures steps { (p : Program) (rows : List (List ℕ)) → Stands p rows self.old → FitsShape (input_shape p) row.now →
             GivesLast p rows (row_of row.now) (row_of out.new) × Stands p (rows ++ row_of row.now ∷ []) self.new }
-        ensures rows { (p : Program) (rows outs : List (List ℕ)) → Stands p rows self.old → GivesRows p rows outs →
+        ensures rows { (p : Program) (rows outs : List (List ℕ)) → Stands p rows self.old → FitsShape (input_shape p) row.now → GivesRows p rows outs →
             GivesRows p (rows ++ row_of row.now ∷ []) (outs ++ row_of out.new ∷ []) }
-        ensures numbers { All (IsValueOf Numbers) out.new }
+        ensures fits { (p : Program) (rows : List (List ℕ)) → Stands p rows self.old → FitsShape (input_shape p) row.now → FitsShape (output_shape p) out.new }
     {
         put_row(self.values.as_mut_slice(), row);
         assign(

@@ -117,6 +117,45 @@ fn sum_wraps(rt: HostRuntime) -> Result<(), Fail> {
     expect(&rt, rt.alloc(), text, b"2147483647\n", 0, output, b"")
 }
 
+#[test]
+fn division(rt: HostRuntime) -> Result<(), Fail> {
+    let text = b"node main(x:int) returns (q,r,n:int) let q = x / 2; r = x mod 2; n = x / -1 tel";
+    let output = b"-3 -1 7\n-1073741824 0 -2147483648\n";
+    expect(&rt, rt.alloc(), text, b"-7\n-2147483648\n", 0, output, b"")
+}
+
+#[test]
+fn bad_value(rt: HostRuntime) -> Result<(), Fail> {
+    let text = b"node main(b:bool) returns (y:bool) let y = not b tel";
+    let line = b"hepasync: line 3: bad value at 0\n";
+    expect(
+        &rt,
+        rt.alloc(),
+        text,
+        b"true\nfalse\ntru\n",
+        4,
+        b"false\ntrue\n",
+        line,
+    )
+}
+
+#[test]
+fn constructors(rt: HostRuntime) -> Result<(), Fail> {
+    let text =
+        b"type mode = Coarse | Fine\nnode main(m:mode) returns (k:mode; b:bool) let k = if m = Coarse then Fine else Coarse; b = m = Fine tel";
+    let output = b"Fine false\nCoarse true\n";
+    expect(&rt, rt.alloc(), text, b"Coarse\nFine\n", 0, output, b"")
+}
+
+// Truth values, constructors and a local variable are kept from one instant to the next.
+#[test]
+fn kept_values(rt: HostRuntime) -> Result<(), Fail> {
+    let text =
+        b"type t = A | B | C node main(x:int) returns (y:t; e:bool) var n:int; let n = 0 fby (n * 3 - x); y = C fby (if n < 0 then B else y); e = (true fby (y <> C)) or n > 4 & not (x = 1) tel";
+    let output = b"C true\nC false\nB false\nB true\n";
+    expect(&rt, rt.alloc(), text, b"2\n-9\n1\n0\n", 0, output, b"")
+}
+
 // A `fby` in the right operand of a `fby` is a memory of its own.
 #[test]
 fn nested_fby(rt: HostRuntime) -> Result<(), Fail> {
@@ -165,10 +204,14 @@ fn not_served(rt: HostRuntime) -> Result<(), Fail> {
     let texts = [
         // a variable that is read before its equation
         b"node main(x:int) returns (y:int; z:int) let y = z; z = x tel".as_slice(),
-        // a sign that isn't served
-        b"node main(x:int) returns (y:int) let y = x * x tel".as_slice(),
-        // a type
-        b"type t = A node main(x:int) returns (y:int) let y = x tel".as_slice(),
+        // the same in the left operand of a `fby`
+        b"node main(x:int) returns (y:int; z:int) let y = z fby x; z = x tel".as_slice(),
+        // a form that isn't served
+        b"node main(x:int) returns (y:int) let y = 0 -> x tel".as_slice(),
+        // `last`
+        b"node main(x:int) returns (last y:int = 0) let y = x tel".as_slice(),
+        // a block
+        b"node main(x:int) returns (y:int) let reset y = x every x = 0 tel".as_slice(),
         // two nodes
         b"node f(x:int) returns (y:int) let y = x tel node main(x:int) returns (y:int) let y = x tel".as_slice(),
     ];
@@ -211,16 +254,66 @@ fn type_faults(rt: HostRuntime) -> Result<(), Fail> {
             b"node f(x:int) returns (z:int) let z = x tel node main(x:int) returns (y:int) let y = !(async<<0>> f(x)) tel".as_slice(),
             b"hepasync: refused: limit at 87: 0 of 1024\n".as_slice(),
         ),
-        (
-            b"node main(x:int) returns (y:int) let y = x when true(b) tel".as_slice(),
-            b"hepasync: refused: unknown name at 43\n".as_slice(),
-        ),
     ];
     for (text, line) in rows {
         let outcome = outcome_of(rt.alloc(), &["a.ept"], Some(text), b"1\n", 9, NONE)?;
         expect_outcome(&rt, outcome, 1, b"", line);
     }
     Ok(())
+}
+
+#[test]
+fn when_faults(rt: HostRuntime) -> Result<(), Fail> {
+    let alloc = rt.alloc();
+    let text = b"node main(x:int) returns (y:int) let y = x when true(b) tel";
+    let line = b"hepasync: refused: unknown name at 43\n";
+    expect(&rt, alloc, text, b"1\n", 1, b"", line)?;
+    let text = b"node main(b:bool; x:int) returns (y:int) let y = x when b tel";
+    let line = b"hepasync: refused: no clock at 51\n";
+    expect(&rt, alloc, text, b"true 1\n", 1, b"", line)
+}
+
+#[test]
+fn nil_output(rt: HostRuntime) -> Result<(), Fail> {
+    let text = b"node main(x:int) returns (y:int) let y = pre x tel";
+    let line = b"hepasync: refused: may be nil at 26\n";
+    expect(&rt, rt.alloc(), text, b"1\n", 1, b"", line)
+}
+
+// A restart leaves `y` undefined at an instant at which `z` reads it.
+#[test]
+fn reset_makes_nil(rt: HostRuntime) -> Result<(), Fail> {
+    let text =
+        b"node main(r:bool; x:int) returns (z:int) var y:int; let reset y = pre x every r; z = 0 -> y tel";
+    let line = b"hepasync: refused: may be nil at 45\n";
+    expect(&rt, rt.alloc(), text, b"true 1\n", 1, b"", line)
+}
+
+#[test]
+fn self_cycle(rt: HostRuntime) -> Result<(), Fail> {
+    let text = b"node main(x:int) returns (y:int) let y = y + x tel";
+    let line = b"hepasync: refused: cycle: y\n";
+    expect(&rt, rt.alloc(), text, b"1\n", 1, b"", line)
+}
+
+#[test]
+fn cycle_over_branches(rt: HostRuntime) -> Result<(), Fail> {
+    let text =
+        b"node main(c:bool) returns (x,y:int) let switch c | true do x = y; y = 0 | false do y = x; x = 0 end tel";
+    let line = b"hepasync: refused: cycle: x y\n";
+    expect(&rt, rt.alloc(), text, b"true\n", 1, b"", line)
+}
+
+// A program that isn't accepted is refused so, also where it isn't served.
+#[test]
+fn refused_before_not_served(rt: HostRuntime) -> Result<(), Fail> {
+    let alloc = rt.alloc();
+    let text = b"type t = A node main(b:bool; x:int) returns (y:int) let y = x when b tel";
+    let line = b"hepasync: refused: no clock at 62\n";
+    expect(&rt, alloc, text, b"true 1\n", 1, b"", line)?;
+    let text = b"node main(x:int) returns (y:int) let y = y * pre x tel";
+    let line = b"hepasync: refused: may be nil at 26\n";
+    expect(&rt, alloc, text, b"1\n", 1, b"", line)
 }
 
 #[test]

@@ -46,8 +46,8 @@ fn prepare<F: Store>(alloc: Global, words: &[String], files: &mut F) -> Result<M
         return Err(End::Usage);
     };
     let text = read_text(alloc, name, files)?;
-    let typed = read_checked(alloc, text.as_slice())?;
-    match Machine::new(alloc, typed.program()) {
+    let accepted = read_checked(alloc, text.as_slice())?;
+    match Machine::new(alloc, accepted.program()) {
         Ok(machine) => Ok(machine),
         Err(Memory) => Err(End::Memory),
     }

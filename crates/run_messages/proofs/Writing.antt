@@ -1,16 +1,19 @@
 -- Bytes that are written one piece after another.
-use Rattle.std.proofs.Common.{◌≡◌, ℕ, ◌+◌, List, [], ◌∷◌, ◌++◌, codes, refl, length, take, Option, Result, Ok, Err, sym, subst, ap, ◌∙◌, arith, length-append}
+use Rattle.std.proofs.Common.{◌≡◌, ℕ, ◌+◌, ◌-◌, List, [], ◌∷◌, ◌++◌, codes, refl, length, take, drop, ◌<◌, slice_index_or, Option, Result, Ok, Err, sym, subst, ap, ◌∙◌, arith, length-append}
 use Rattle.std.specs.Result.{IsErrAnd}
 use Rattle.std.proofs.lemmas.Result.{err_from_is_err_and}
-use Rattle.std.proofs.lemmas.List.{take-append-le}
+use Rattle.std.specs.List.{flat_map}
+use Rattle.std.proofs.lemmas.List.{take-append-le, take-append-drop, take_rest, drop_more}
+use Rattle.std.proofs.lemmas.Grind.{flat_map-append}
 use Rattle.std.proofs.Math.Seq.{take-append-add}
 use Rattle.std.specs.Io.KnownBytes.{Appends}
+use Rattle.hept_ast.specs.Texts.{Name}
 use Rattle.hept_io.specs.declared.outside.Failed.{Failed}
 use Rattle.trace_io.specs.OutputText.{AppendsPart}
 use Rattle.trace_io.proofs.SinkBytes.{appends_both}
 use Rattle.run_messages.specs.declared.end.End.{End}
 use Rattle.run_messages.specs.declared.end.End.TheVariants.{Ended, Refused, Usage, File, BadRow, Limit, ReadFault, WriteFault, Memory}
-use Rattle.run_messages.specs.Lines.{Writes, end_text, line_of}
+use Rattle.run_messages.specs.Lines.{Writes, behind_space, end_text, line_of, spaced}
 
 -- a part of the front is a part of the whole
 part_of_front : (a b : Option (List ℕ)) (xs ys : List ℕ) → AppendsPart a b xs → AppendsPart a b (xs ++ ys)
@@ -37,6 +40,24 @@ pub stops_in_front : (a b : Option (List ℕ)) (xs ys : List ℕ) (r : Result (U
 stops_in_front a b xs ys r e i h =
     let is = err_from_is_err_and r i in
     subst (λ (s : Result (Unit {0}) Failed). Writes s a b (xs ++ ys)) (sym (is.1 ∙ ap (λ x. Err x) is.2)) (part_of_front a b xs ys h)
+
+-- what each of a list stands for, in its order: the front, one more, and those behind
+split_at : {X : Type 0} (f : X → List ℕ) (xs : List X) (i : ℕ) (x : X) → i < length xs → flat_map f (take i xs) ++ (f (slice_index_or xs i x) ++ flat_map f (drop (i + 1) xs)) ≡ flat_map f xs
+split_at f xs i x below =
+    sym (flat_map-append f (take i xs) (slice_index_or xs i x ∷ drop (i + 1) xs)) ∙ ap (λ ys. flat_map f (take i xs ++ ys)) (sym (drop_more xs i x below)) ∙ ap (flat_map f) (take-append-drop i xs)
+
+-- those in front of one were written, and it in part
+pub stops_among : {X : Type 0} (f : X → List ℕ) (xs : List X) (i : ℕ) (x : X) (a b c : Option (List ℕ)) (r : Result (Unit {0}) Failed) (e : Failed)
+    → i < length xs → x ≡ slice_index_or xs i x → Appends a b (flat_map f (take i xs)) → AppendsPart b c (f x) → IsErrAnd r (λ y. y ≡ e) → Writes r a c (flat_map f xs)
+stops_among f xs i x a b c r e below same h part is =
+    subst (Writes r a c) (split_at f xs i x below)
+    (then_writes a b c (flat_map f (take i xs)) (f (slice_index_or xs i x) ++ flat_map f (drop (i + 1) xs)) r h
+    (stops_in_front b c (f (slice_index_or xs i x)) (flat_map f (drop (i + 1) xs)) r e is (subst (λ y. AppendsPart b c (f y)) same part)))
+
+-- the first of some names was written, and then the others
+pub first_written : (xs : List Name) (x : Name) (a b c : Option (List ℕ)) (r : Result (Unit {0}) Failed) → 0 < length xs → x ≡ slice_index_or xs 0 x → Appends a b x → Writes r b c (flat_map behind_space (take (length xs - 1) (drop 1 xs))) → Writes r a c (spaced xs)
+first_written [] x a b c r below same h k = absurd (omega (arith, below))
+first_written (y ∷ ys) x a b c r below same h k = subst (λ z. Writes r a c (z ++ flat_map behind_space ys)) same (then_writes a b c x (flat_map behind_space ys) r h (subst (λ zs. Writes r b c (flat_map behind_space zs)) (take_rest (y ∷ ys) 1) k))
 
 -- the text of the same thing
 pub text_as : {T : Type 0} (text : T → List ℕ) (x y : T) (r : Result (Unit {0}) Failed) (a b : Option (List ℕ)) → x ≡ y → Writes r a b (text y) → Writes r a b (text x)

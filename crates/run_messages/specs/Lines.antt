@@ -1,6 +1,8 @@
 -- The line that tells how a run ended.
 use Rattle.std.specs.Prelude.{ℕ, List, [], ◌∷◌, ◌++◌, Option, Result, Ok, Err, codes, decimal}
+use Rattle.std.specs.List.{flat_map}
 use Rattle.std.specs.Io.KnownBytes.{Appends}
+use Rattle.hept_ast.specs.Texts.{Name}
 use Rattle.hept_io.specs.declared.outside.Failed.{Failed}
 use Rattle.trace_io.specs.OutputText.{AppendsPart}
 use Rattle.trace_io.specs.declared.row_text.RowFault.{RowFault}
@@ -12,13 +14,21 @@ use Rattle.run_messages.specs.declared.end.FileFault.TheVariants.{Failed as Not_
 use Rattle.run_messages.specs.declared.end.BadRow.{BadRow}
 use Rattle.run_messages.specs.declared.end.BadRow.TheVariants.{TooLong, Fault}
 use Rattle.run_messages.specs.declared.end.Refusal.{Refusal}
-use Rattle.run_messages.specs.declared.end.Refusal.TheVariants.{BadByte, OpenComment, NumberTooLarge, Unexpected, TooDeep, UnknownName, Duplicate, Mismatch, ZeroDivisor, Recursive, NotDefined, FutureKept, NestedAsync, Limit, NoNode, FutureInterface, NotServed}
+use Rattle.run_messages.specs.declared.end.Refusal.TheVariants.{BadByte, OpenComment, NumberTooLarge, Unexpected, TooDeep, UnknownName, Duplicate, Mismatch, ZeroDivisor, Recursive, NotDefined, FutureKept, NestedAsync, Limit, NoNode, FutureInterface, NoClock, MayBeNil, Cycle, NotServed}
 
 -- ---- texts
 
 -- a limit is passed by what was kept, at a place
 abbrev pub passed_text : (at kept limit : ℕ) → List ℕ
 passed_text at kept limit = (codes "limit at " ++ decimal at) ++ ((codes ": " ++ decimal kept) ++ (codes " of " ++ decimal limit))
+
+abbrev pub behind_space : Name → List ℕ
+behind_space x = 32 ∷ x
+
+-- names with one space between them
+abbrev pub spaced : List Name → List ℕ
+spaced [] = []
+spaced (x ∷ xs) = x ++ flat_map behind_space xs
 
 -- why a program is refused
 abbrev pub refusal_text : Refusal → List ℕ
@@ -38,6 +48,9 @@ refusal_text (NestedAsync at) = codes "nested async at " ++ decimal at.0
 refusal_text (Limit at kept limit) = passed_text at.0 kept limit
 refusal_text NoNode = codes "no node"
 refusal_text (FutureInterface at) = codes "future interface at " ++ decimal at.0
+refusal_text (NoClock at) = codes "no clock at " ++ decimal at.0
+refusal_text (MayBeNil at) = codes "may be nil at " ++ decimal at.0
+refusal_text (Cycle vars) = codes "cycle: " ++ spaced vars
 refusal_text NotServed = codes "not served"
 
 abbrev pub file_text : FileFault → List ℕ

@@ -1,9 +1,10 @@
 //! How a run ends.
-use hept_ast::Place;
+use hept_ast::{Name, Place};
+use sqlite_items::Items;
 use trace_io::RowFault;
 
 /// What a run comes to.
-#[derive(Clone, Copy, Debug, PartialEq, Eq)]
+#[derive(Debug, Drop)]
 pub enum End {
     /// The trace ended, and every line counted as a row.
     Ended,
@@ -24,7 +25,7 @@ pub enum End {
 }
 
 /// Why a file's text is refused.
-#[derive(Clone, Copy, Debug, PartialEq, Eq)]
+#[derive(Debug, Drop)]
 pub enum Refusal {
     BadByte { at: Place },
     OpenComment { at: Place },
@@ -42,6 +43,10 @@ pub enum Refusal {
     Limit { at: Place, kept: u32, limit: u32 },
     NoNode,
     FutureInterface { at: Place },
+    NoClock { at: Place },
+    MayBeNil { at: Place },
+    /// Variables of a node, each reading the next at its own instant, and the last the first.
+    Cycle { vars: Items<Name> },
     /// The program is not one that is run so far.
     NotServed,
 }

@@ -1,9 +1,11 @@
 //! The line that a run writes where it stops before the end of its trace.
 ghost use Rattle.std.specs.Prelude.{◌≡◌, ◌≤◌, ◌++◌, ◌∷◌, [], OnErr, codes, decimal};
+ghost use Rattle.std.specs.List.{flat_map};
 ghost use Rattle.hept_io.specs.Outside.{Rose};
-ghost use Rattle.run_messages.specs.Lines.{Writes, bad_row_text, end_text, file_text, line_of, passed_text, refusal_text, row_fault_text};
+ghost use Rattle.run_messages.specs.Lines.{Writes, bad_row_text, behind_space, end_text, file_text, line_of, passed_text, refusal_text, row_fault_text, spaced};
 
 use crate::end::{BadRow, End, FileFault, Refusal};
+use hept_ast::Name;
 use hept_io::{Failed, Sink};
 use itoa::Buffer;
 use trace_io::{RowFault, write_whole};
@@ -98,8 +100,56 @@ fn write_refusal<E: Sink>(refusal: &Refusal, sink: &mut E) -> Result<(), Failed>
         Refusal::Limit { at, kept, limit } => write_passed(at.0, *kept, *limit, sink),
         Refusal::NoNode => put(b"no node", sink),
         Refusal::FutureInterface { at } => write_number(b"future interface at ", at.0, sink),
+        Refusal::NoClock { at } => write_number(b"no clock at ", at.0, sink),
+        Refusal::MayBeNil { at } => write_number(b"may be nil at ", at.0, sink),
+        Refusal::Cycle { vars } => write_cycle(vars.as_slice(), sink),
         Refusal::NotServed => put(b"not served", sink),
     }
+}
+
+fn write_cycle<E: Sink>(vars: &[Name], sink: &mut E) -> Result<(), Failed>
+    ensures text { Writes result (E.held sink.old) (E.held sink.new) (codes "cycle: " ++ spaced vars.now) }
+    ensures cause { OnErr result (Rose (E.faults sink.old) (E.faults sink.new)) }
+    ensures count { E.faults sink.old ≤ E.faults sink.new }
+{
+    put(b"cycle: ", sink)?;
+    write_names(vars, sink)
+}
+
+/// Writes names with a space between them.
+fn write_names<E: Sink>(names: &[Name], sink: &mut E) -> Result<(), Failed>
+    ensures text { Writes result (E.held sink.old) (E.held sink.new) (spaced names.now) }
+    ensures cause { OnErr result (Rose (E.faults sink.old) (E.faults sink.new)) }
+    ensures count { E.faults sink.old ≤ E.faults sink.new }
+{
+    match names {
+        [] => Ok(()),
+        [first, others @ ..] => {
+            put(first.bytes(), sink)?;
+            write_others(others, sink)
+        }
+    }
+}
+
+/// Writes names, each behind a space.
+fn write_others<E: Sink>(names: &[Name], sink: &mut E) -> Result<(), Failed>
+    ensures text { Writes result (E.held sink.old) (E.held sink.new) (flat_map behind_space names.now) }
+    ensures cause { OnErr result (Rose (E.faults sink.old) (E.faults sink.new)) }
+    ensures count { E.faults sink.old ≤ E.faults sink.new }
+{
+    for name in names {
+        write_behind_space(name, sink)?;
+    }
+    Ok(())
+}
+
+fn write_behind_space<E: Sink>(name: &Name, sink: &mut E) -> Result<(), Failed>
+    ensures text { Writes result (E.held sink.old) (E.held sink.new) (behind_space name.now) }
+    ensures cause { OnErr result (Rose (E.faults sink.old) (E.faults sink.new)) }
+    ensures count { E.faults sink.old ≤ E.faults sink.new }
+{
+    put(b" ", sink)?;
+    put(name.bytes(), sink)
 }
 
 /// Writes that a limit is passed.

@@ -1,8 +1,9 @@
 ghost use Rattle.std.specs.Prelude.{◌≤◌};
 
 use crate::{BadRow, End, FileFault, Refusal, write_line};
-use hept_ast::Place;
+use hept_ast::{Name, Place};
 use hept_io::MemorySink;
+use sqlite_items::Items;
 use std::alloc::{AllocError, Global};
 use std::test::Fail;
 use trace_io::RowFault;
@@ -22,6 +23,17 @@ fn written(
     }
     let whole = write_line(end, &mut sink).is_ok();
     Ok((whole, sink.bytes().to_vec(alloc)?))
+}
+
+fn cycle(alloc: Global, names: &[&[u8]]) -> Result<End, AllocError> {
+    let mut vars = Items::new(alloc);
+    for name in names {
+        let Ok(name) = Name::of(alloc, name) else {
+            return Err(AllocError);
+        };
+        vars.push(name)?;
+    }
+    Ok(End::Refused(Refusal::Cycle { vars }))
 }
 
 #[test]
@@ -97,6 +109,22 @@ fn lines(rt: HostRuntime) -> Result<(), Fail> {
         (
             End::Refused(Refusal::FutureInterface { at }),
             b"hepasync: refused: future interface at 45\n".as_slice(),
+        ),
+        (
+            End::Refused(Refusal::NoClock { at: Place(51) }),
+            b"hepasync: refused: no clock at 51\n".as_slice(),
+        ),
+        (
+            End::Refused(Refusal::MayBeNil { at }),
+            b"hepasync: refused: may be nil at 45\n".as_slice(),
+        ),
+        (
+            cycle(rt.alloc(), &[b"y"])?,
+            b"hepasync: refused: cycle: y\n".as_slice(),
+        ),
+        (
+            cycle(rt.alloc(), &[b"x", b"left_1", b"y"])?,
+            b"hepasync: refused: cycle: x left_1 y\n".as_slice(),
         ),
         (
             End::Refused(Refusal::NotServed),

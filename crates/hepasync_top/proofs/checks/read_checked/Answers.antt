@@ -25,7 +25,7 @@ pub returns-clause-exactly : goal.returns-clause-exactly
 returns-clause-exactly c = read_exactly c.args.text.now c.check_program.result c.in-Ok.ensures.exactly
 
 pub returns-clause-refused : goal.returns-clause-refused
-returns-clause-refused c = read_refused c.args.text.now c.in-Ok.program c.check_program.result c.in-Ok.ensures.exactly c.in-Ok.ensures.only c.check_program.ensures.runs c.check_program.ensures.ends
+returns-clause-refused c = read_refused c.clock_laws.ensures.program c.args.text.now c.in-Ok.program c.check_program.result c.in-Ok.ensures.exactly c.in-Ok.ensures.only c.check_program.ensures.runs c.check_program.ensures.ends
 
 pub returns-clause-complete : goal.returns-clause-complete
-returns-clause-complete c = read_complete c.args.text.now c.in-Ok.program c.check_program.result c.in-Ok.ensures.only c.check_program.ensures.same c.check_program.ensures.ends
+returns-clause-complete c = read_complete c.clock_laws.ensures.program c.args.text.now c.in-Ok.program c.check_program.result c.in-Ok.ensures.only c.check_program.ensures.same c.check_program.ensures.ends

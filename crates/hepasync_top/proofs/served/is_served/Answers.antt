@@ -3,4 +3,4 @@ use Rattle.hepasync_top.proofs.served.is_served.Goals as goal
 
 pub returns-in-len1 : goal.returns-in-len1
 returns-in-len1 c =
-    program_served c.node-item.result _ c.as_slice.ensures c.in-len1.len_at_least c.in-len1.len_below c.node-item.is (c.is_empty.ensures.0 c.if-not-is_empty.false) _ c.is_served_node.ensures
+    program_served _ c.node-item.result _ c.as_slice.ensures c.in-len1.len_at_least c.in-len1.len_below c.node-item.is _ c.is_served_node.ensures

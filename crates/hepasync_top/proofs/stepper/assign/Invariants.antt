@@ -1,6 +1,10 @@
-use Rattle.std.proofs.Common.{◌≡◌, fold, take}
+use Rattle.std.proofs.Common.{◌≡◌, drop, fold, take}
+use Rattle.hepasync_top.specs.Stepping.{MayAssign}
 use Rattle.hepasync_top.proofs.Body.{assigned}
 use Rattle.hepasync_top.proofs.stepper.assign.Given as goal
 
 abbrev pub invariant-loop-equation : goal.invariant-loop-equation
-invariant-loop-equation l = l.values ≡ fold (assigned l.cells) l.initial.values (take l.equation-index l.equations)
+invariant-loop-equation l = record {
+  values : l.values ≡ fold (assigned l.cells) l.initial.values (take l.equation-index l.equations);
+  may : MayAssign (drop l.equation-index l.equations) l.cells l.values;
+}

@@ -50,5 +50,11 @@ returns-in-NoNode-clause-text g c = text_as refusal_text _ _ _ _ _ c.in-NoNode.i
 pub returns-in-FutureInterface-clause-text : goal.returns-in-FutureInterface-clause-text
 returns-in-FutureInterface-clause-text g c = text_as refusal_text _ _ _ _ _ c.in-FutureInterface.is c.write_number-in-FutureInterface.ensures.text
 
+pub returns-in-NoClock-clause-text : goal.returns-in-NoClock-clause-text
+returns-in-NoClock-clause-text g c = text_as refusal_text _ _ _ _ _ c.in-NoClock.is c.write_number-in-NoClock.ensures.text
+
+pub returns-in-MayBeNil-clause-text : goal.returns-in-MayBeNil-clause-text
+returns-in-MayBeNil-clause-text g c = text_as refusal_text _ _ _ _ _ c.in-MayBeNil.is c.write_number-in-MayBeNil.ensures.text
+
 pub returns-in-NotServed-clause-text : goal.returns-in-NotServed-clause-text
 returns-in-NotServed-clause-text g c = text_as refusal_text _ _ _ _ _ c.in-NotServed.is c.put-in-NotServed.ensures.text

@@ -4,8 +4,31 @@ use Rattle.step_objects.specs.declared.shape.Values.{Values}
 use Rattle.step_cells.specs.declared.cell.Cell.{Cell}
 use Rattle.step_cells.specs.Cells.{row_of}
 use Rattle.trace_io.specs.OutputText.{row_line, AppendsPart}
+use Rattle.step_objects.specs.Shapes.{FitsShape}
+use Rattle.hepasync_top.proofs.AtInstant.{rewritten}
 use Rattle.hepasync_top.proofs.LineSteps.{loses_row}
 use Rattle.hepasync_top.proofs.machine.Machine.turn.Goals as goal
+
+pub step-requires-clause-can : goal.step-requires-clause-can
+step-requires-clause-can g c =
+    let can = c.requires in
+    let k = can.program in
+    record {
+      goes_on = c.in_ok-read_line.ensures.row.0;
+      ready = can.ready;
+      program = record { program = k.program; rows = k.rows; stands = k.stands; input_shape = k.input_shape; output_shape = k.output_shape };
+      inputs = can.inputs;
+      few = can.few;
+      row = can.row;
+      outputs = can.outputs;
+      values = can.values;
+      writer = can.writer;
+    }
+
+pub step-requires-clause-row : goal.step-requires-clause-row
+step-requires-clause-row g c =
+    subst (λ (cells : List Cell). FitsShape c.args.self.now.inputs cells) (sym (rewritten c.args.self.now.row c.read_line.new.row (c.read_line.auto.row ∙ c.as_mut_slice-row.ensures.len ∙ c.args.self.now.row.ok.0)))
+    c.in_ok-read_line.ensures.fits
 
 pub returns-in-Ok-clause-turns : goal.returns-in-Ok-clause-turns
 returns-in-Ok-clause-turns g c = λ p rows outs h.

@@ -1,10 +1,10 @@
 use Rattle.std.proofs.Common.{length}
 use Rattle.std.specs.Prelude.{◌↔◌, All}
-use Rattle.hepasync_top.specs.Served.{IsInteger}
-use Rattle.hepasync_top.proofs.served.are_integers.Given as goal
+use Rattle.hepasync_top.specs.Served.{IsPlain}
+use Rattle.hepasync_top.proofs.served.are_plain.Given as goal
 
 abbrev pub invariant-loop-decls : goal.invariant-loop-decls
-invariant-loop-decls l = All IsInteger l.decls ↔ All IsInteger l.initial.decls
+invariant-loop-decls l = All IsPlain l.decls ↔ All IsPlain l.initial.decls
 
 abbrev pub decreases-loop-decls : goal.decreases-loop-decls
 decreases-loop-decls l = length l.decls
