@@ -4,4 +4,6 @@
 #[cfg(test)]
 mod acceptance;
 #[cfg(test)]
+mod erasure;
+#[cfg(test)]
 mod tests;
