@@ -1,0 +1,7 @@
+use Rattle.accepted_meaning.proofs.StaticNodes.{accepted_is_sound}
+use Rattle.accepted_meaning.proofs.KnownLaw.{accepted_has_outputs}
+use Rattle.accepted_meaning.proofs.SentLaw.{scoped_has_sent, scoped_call_is_alone}
+use Rattle.accepted_meaning.proofs.laws.accepted_laws.Goals as goal
+
+pub returns : goal.returns
+returns c = record { sound = accepted_is_sound; outputs = accepted_has_outputs; sent = scoped_has_sent; alone = scoped_call_is_alone }

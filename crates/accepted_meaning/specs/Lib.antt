@@ -1,0 +1,11 @@
+pub mod TypedValues
+pub mod Ranges
+pub mod Sound
+pub mod SoundNodes
+pub mod Placing
+pub mod Running
+pub mod Structure
+pub mod Asked
+pub mod SiteLaws
+pub mod Laws
+pub mod ReplyLaws

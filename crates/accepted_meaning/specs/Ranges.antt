@@ -1,0 +1,34 @@
+-- What holds of every program that a text spells: each declared type has a constructor, each number has 32 bits, and each plain
+-- equation has a name on its left side.
+use Rattle.std.specs.Prelude.{◌≡◌, List, [], All, Option, Some, None}
+use Rattle.hept_ast.specs.Parts.{Part, Plain, expressions, parts, variables}
+use Rattle.hept_ast.specs.declared.tree.Program.{Program}
+use Rattle.hept_ast.specs.declared.tree.TypeDec.{TypeDec}
+use Rattle.hept_ast.specs.declared.tree.Init.{Init}
+use Rattle.hept_ast.specs.declared.tree.Expr.{Expr}
+use Rattle.hept_ast.specs.declared.tree.MergeBranch.{MergeBranch}
+use Rattle.hept_ast.specs.declared.tree.Form.{Form, out-Form}
+use Rattle.hept_ast.specs.declared.tree.Form.TheOpen.{Form-F}
+use Rattle.accepted_meaning.specs.TypedValues.{FitsConst}
+
+abbrev pub FitsForm : Form-F Form Expr MergeBranch → Type 0
+FitsForm (Form-F.Const v) = FitsConst v
+FitsForm (Form-F.AsyncConst v) = FitsConst v
+FitsForm _ = Unit {0}
+
+abbrev pub FitsInit : Option Init → Type 0
+FitsInit None = Unit {0}
+FitsInit (Some i) = FitsConst i.value
+
+abbrev pub HaveConstructors : List TypeDec → Type 0
+HaveConstructors types = All (λ d. d.constructors ≡ [] → ⊥) types
+
+abbrev pub HasLeft : Part → Type 0
+HasLeft (Plain p [] right) = ⊥
+HasLeft _ = Unit {0}
+
+pub record IsInRange (program : Program) : Type 0 where
+  pub constructors : HaveConstructors program.types
+  pub constants : All (λ node. All (λ e. FitsForm (out-Form e.form)) (expressions node)) program.nodes
+  pub initials : All (λ node. All (λ d. FitsInit d.init) (variables node)) program.nodes
+  pub lefts : All (λ node. All (λ q. HasLeft q.part) (parts node)) program.nodes
