@@ -1,0 +1,9 @@
+pub mod Sublists
+pub mod FormPlaces
+pub mod PartPlaces
+pub mod Increasing
+pub mod Places
+pub mod GoodTexts
+pub mod GoodRules
+pub mod InRange
+pub mod Accepting
