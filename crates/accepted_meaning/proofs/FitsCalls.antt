@@ -15,7 +15,7 @@ use Rattle.hept_ast.specs.declared.tree.Ty.{Ty}
 use Rattle.hept_ast.specs.declared.tree.Ty.TheVariants as ty
 use Rattle.hept_ast.specs.declared.tree.Form.{Form, out-Form}
 use Rattle.hept_ast.specs.declared.tree.Form.TheOpen.{Form-F}
-use Rattle.accepted_meaning.specs.TypedValues.{IsValueOf, AreValuesOf}
+use Rattle.hept_ast.specs.TypedValues.{IsValueOf, AreValuesOf}
 use Rattle.accepted_meaning.specs.Sound.{Within, Sees, Sound, is_constant, is_async_constant, is_variable, is_last, is_unary, is_binary, is_if, is_fby, is_pre, is_arrow, is_when, is_merge, is_call, is_async_call, is_get}
 use Rattle.accepted_meaning.specs.SoundNodes.{SoundNode}
 use Rattle.accepted_meaning.specs.Placing.{site_of}

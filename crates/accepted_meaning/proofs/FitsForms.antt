@@ -24,7 +24,7 @@ use Rattle.hept_ast.specs.declared.tree.Form.TheOpen.{Form-F}
 use Rattle.hept_ast.specs.declared.tree.Form.TheViews.{roll-out-Form}
 use Rattle.hept_ast.specs.declared.tree.Form.TheVariants as form
 use Rattle.hept_ast.proofs.FormsOf.{grade-Const, grade-Var, grade-Last, grade-Unary, grade-Binary, grade-If, grade-Fby, grade-Pre, grade-Arrow, grade-When, grade-Merge, grade-Call, grade-AsyncCall, grade-AsyncConst, grade-Get}
-use Rattle.accepted_meaning.specs.TypedValues.{FitsConst, IsValueOf, value_count}
+use Rattle.hept_ast.specs.TypedValues.{FitsConst, IsValueOf, value_count}
 use Rattle.accepted_meaning.specs.Sound.{Within, Sees, Sound, SoundBranches, is_constant, is_async_constant, is_variable, is_last, is_unary, is_binary, is_if, is_fby, is_pre, is_arrow, is_when, is_merge, is_call, is_async_call, is_get, a_branch}
 use Rattle.accepted_meaning.specs.Placing.{site_of}
 use Rattle.accepted_meaning.specs.Running.{Run, StandsIn, setting_of, types_in, IsKnown}

@@ -13,7 +13,7 @@ use Rattle.hept_ast.specs.declared.tree.Ty.{Ty}
 use Rattle.hept_ast.specs.declared.tree.Equation.{Equation, out-Equation}
 use Rattle.hept_ast.specs.declared.tree.Equation.TheOpen.{Equation-F}
 use Rattle.hept_ast.specs.declared.name.Place.{Place}
-use Rattle.accepted_meaning.specs.TypedValues.{IsValueOf}
+use Rattle.hept_ast.specs.TypedValues.{IsValueOf}
 use Rattle.accepted_meaning.specs.Sound.{Within, Sees, Sound}
 use Rattle.accepted_meaning.specs.Placing.{site_of}
 use Rattle.accepted_meaning.specs.Running.{Run, IsSoundRun, StandsIn, types_in, IsKnown}

@@ -14,7 +14,7 @@ use Rattle.hept_ast.specs.declared.tree.Init.{Init}
 use Rattle.hept_ast.specs.declared.tree.Node.{Node}
 use Rattle.hept_ast.specs.declared.tree.Ty.{Ty}
 use Rattle.hept_ast.specs.declared.tree.Ty.TheVariants as ty
-use Rattle.accepted_meaning.specs.TypedValues.{IsValueOf}
+use Rattle.hept_ast.specs.TypedValues.{IsValueOf}
 use Rattle.accepted_meaning.specs.Sound.{Within, Sees}
 use Rattle.accepted_meaning.specs.SoundNodes.{SoundNode, SoundInit, SoundLast}
 use Rattle.accepted_meaning.specs.Placing.{IsPlaced, at_top, site_of}

@@ -20,7 +20,7 @@ use Rattle.hept_ast.specs.declared.tree.UnaryOp.{UnaryOp}
 use Rattle.hept_ast.specs.declared.tree.UnaryOp.TheVariants.{Minus, Not}
 use Rattle.hept_ast.specs.declared.tree.BinaryOp.{BinaryOp}
 use Rattle.hept_ast.specs.declared.tree.BinaryOp.TheVariants.{Add, Sub, Mul, Div, Rem, Or, And, Eq, Ne, Lt, Le, Gt, Ge}
-use Rattle.accepted_meaning.specs.TypedValues.{value_count, IsValueOf}
+use Rattle.hept_ast.specs.TypedValues.{value_count, IsValueOf}
 
 -- ---- equal types
 

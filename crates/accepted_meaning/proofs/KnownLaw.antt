@@ -1,7 +1,7 @@
 -- Accepted programs have outputs.
 use Rattle.std.proofs.Common.{length, ◌<◌, ℕ, List}
 use Rattle.hept_ast.specs.Outputs.{Outputs}
-use Rattle.accepted_meaning.specs.TypedValues.{RowsFit}
+use Rattle.hept_ast.specs.TypedValues.{RowsFit}
 use Rattle.accepted_meaning.specs.Running.{Run, IsSoundRun, ExpressionsFit, VariablesFit, StatesFit, AbsentIsNotPresent, DefinedIsNotNil, setting_of, text_run, types_in}
 use Rattle.accepted_meaning.specs.Laws.{AcceptedHasOutputs, run_of}
 use Rattle.accepted_meaning.proofs.StaticNodes.{accepted_is_sound}

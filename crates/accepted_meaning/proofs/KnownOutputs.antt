@@ -7,7 +7,7 @@ use Rattle.hept_ast.specs.Meaning.{Variable, Present, Active, Answer, Value, Is}
 use Rattle.hept_ast.specs.Outputs.{said, asked, HaveValues, OutputsFrom, Outputs}
 use Rattle.hept_ast.specs.declared.tree.Decl.{Decl}
 use Rattle.hept_ast.proofs.Depths.{to_rule, one_answer}
-use Rattle.accepted_meaning.specs.TypedValues.{IsValueOf, RowFits, RowsFit}
+use Rattle.hept_ast.specs.TypedValues.{IsValueOf, RowFits, RowsFit}
 use Rattle.accepted_meaning.specs.Sound.{Within, Sees}
 use Rattle.accepted_meaning.specs.SoundNodes.{within}
 use Rattle.accepted_meaning.specs.Placing.{at_top}

@@ -8,7 +8,7 @@ use Rattle.hept_ast.specs.Outputs.{HaveValues}
 use Rattle.hept_ast.specs.Sites.{Site}
 use Rattle.hept_ast.specs.Calls.{BodyGives, no_more, is_absent, is_present}
 use Rattle.hept_ast.specs.declared.tree.Decl.{Decl}
-use Rattle.accepted_meaning.specs.TypedValues.{RowFits, RowsFit}
+use Rattle.hept_ast.specs.TypedValues.{RowFits, RowsFit}
 use Rattle.accepted_meaning.specs.Running.{Run, StandsIn, setting_of, types_in, IsKnown}
 use Rattle.accepted_meaning.specs.Asked.{IsAsked}
 use Rattle.accepted_meaning.proofs.FitsWords.{IsTruth, as_is}

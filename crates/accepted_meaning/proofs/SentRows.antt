@@ -15,7 +15,7 @@ use Rattle.hept_ast.specs.declared.tree.Decl.{Decl}
 use Rattle.hept_ast.specs.declared.tree.Node.{Node}
 use Rattle.hept_ast.specs.declared.tree.Ty.{Ty}
 use Rattle.hept_ast.specs.declared.tree.Equation.TheOpen.{Equation-F}
-use Rattle.accepted_meaning.specs.TypedValues.{IsValueOf, RowFits, RowsFit}
+use Rattle.hept_ast.specs.TypedValues.{IsValueOf, RowFits, RowsFit}
 use Rattle.accepted_meaning.specs.Ranges.{HasLeft, IsInRange}
 use Rattle.accepted_meaning.specs.Sound.{Within, Sound, SoundArguments, no_arguments, an_argument}
 use Rattle.accepted_meaning.specs.Placing.{site_of}

@@ -21,7 +21,7 @@ use Rattle.hept_ast.specs.declared.tree.Tag.TheVariants as tag
 use Rattle.hept_ast.specs.declared.tree.Ty.{Ty}
 use Rattle.hept_ast.specs.declared.tree.Ty.TheVariants as ty
 use Rattle.hept_ast.specs.declared.tree.Plain.TheVariants.{Int, Bool as Truth_value, Named}
-use Rattle.accepted_meaning.specs.TypedValues.{IsValueOf, RowFits, plain_count, value_count}
+use Rattle.hept_ast.specs.TypedValues.{IsValueOf, RowFits, plain_count, value_count}
 use Rattle.accepted_meaning.specs.Sound.{AreAllTags, branch_tags}
 use Rattle.accepted_meaning.specs.SoundNodes.{NamesDiffer, SoundProgram}
 use Rattle.accepted_meaning.specs.Structure.{ConstantFits, TagFits, TagsDiffer, BranchOfValue, MergeOfValue, StateOfName, InputAt}

@@ -8,7 +8,7 @@ use Rattle.hept_ast.specs.Calls.{GivenOutputs, BodyGives}
 use Rattle.hept_ast.specs.ClockMaps.{clock_in}
 use Rattle.hept_ast.specs.Stages.{ClockedProgram, IsAcceptedProgram}
 use Rattle.hept_ast.specs.declared.tree.Node.{Node}
-use Rattle.accepted_meaning.specs.TypedValues.{RowsFit}
+use Rattle.hept_ast.specs.TypedValues.{RowsFit}
 use Rattle.accepted_meaning.specs.Ranges.{IsInRange}
 use Rattle.accepted_meaning.specs.SoundNodes.{SoundProgram}
 use Rattle.accepted_meaning.specs.Placing.{RepliesFit}

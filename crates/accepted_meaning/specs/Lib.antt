@@ -1,4 +1,3 @@
-pub mod TypedValues
 pub mod Ranges
 pub mod Sound
 pub mod SoundNodes

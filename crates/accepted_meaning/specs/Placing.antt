@@ -19,7 +19,7 @@ use Rattle.hept_ast.specs.declared.tree.Form.{out-Form}
 use Rattle.hept_ast.specs.declared.name.Place.{Place}
 use Rattle.accepted_meaning.specs.Sound.{Sound}
 use Rattle.accepted_meaning.specs.SoundNodes.{SoundNode, within}
-use Rattle.accepted_meaning.specs.TypedValues.{AreValuesOf}
+use Rattle.hept_ast.specs.TypedValues.{AreValuesOf}
 
 -- what stands around what a scope's block holds, within its node's text
 abbrev pub site_of : Scope → Surroundings

@@ -1,15 +1,14 @@
 -- What holds of every program that a text spells: each declared type has a constructor, each number has 32 bits, and each plain
 -- equation has a name on its left side.
-use Rattle.std.specs.Prelude.{◌≡◌, List, [], All, Option, Some, None}
+use Rattle.std.specs.Prelude.{[], All, Option, Some, None}
 use Rattle.hept_ast.specs.Parts.{Part, Plain, expressions, parts, variables}
 use Rattle.hept_ast.specs.declared.tree.Program.{Program}
-use Rattle.hept_ast.specs.declared.tree.TypeDec.{TypeDec}
 use Rattle.hept_ast.specs.declared.tree.Init.{Init}
 use Rattle.hept_ast.specs.declared.tree.Expr.{Expr}
 use Rattle.hept_ast.specs.declared.tree.MergeBranch.{MergeBranch}
 use Rattle.hept_ast.specs.declared.tree.Form.{Form, out-Form}
 use Rattle.hept_ast.specs.declared.tree.Form.TheOpen.{Form-F}
-use Rattle.accepted_meaning.specs.TypedValues.{FitsConst}
+use Rattle.hept_ast.specs.TypedValues.{FitsConst, HaveConstructors}
 
 abbrev pub FitsForm : Form-F Form Expr MergeBranch → Type 0
 FitsForm (Form-F.Const v) = FitsConst v
@@ -19,9 +18,6 @@ FitsForm _ = Unit {0}
 abbrev pub FitsInit : Option Init → Type 0
 FitsInit None = Unit {0}
 FitsInit (Some i) = FitsConst i.value
-
-abbrev pub HaveConstructors : List TypeDec → Type 0
-HaveConstructors types = All (λ d. d.constructors ≡ [] → ⊥) types
 
 abbrev pub HasLeft : Part → Type 0
 HasLeft (Plain p [] right) = ⊥

@@ -12,7 +12,7 @@ use Rattle.hept_ast.specs.ClockMaps.{clock_in}
 use Rattle.hept_ast.specs.Stages.{ClockedProgram, IsAcceptedProgram}
 use Rattle.hept_ast.specs.declared.tree.Node.{Node}
 use Rattle.hept_ast.specs.declared.tree.Program.{Program}
-use Rattle.accepted_meaning.specs.TypedValues.{RowsFit}
+use Rattle.hept_ast.specs.TypedValues.{RowsFit}
 use Rattle.accepted_meaning.specs.Ranges.{IsInRange}
 use Rattle.accepted_meaning.specs.Asked.{HasScopedClocks}
 use Rattle.accepted_meaning.specs.Laws.{run_of}

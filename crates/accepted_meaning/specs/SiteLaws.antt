@@ -8,7 +8,7 @@ use Rattle.hept_ast.specs.Paths.{LeftsAgree}
 use Rattle.hept_ast.specs.ClockMaps.{clock_in}
 use Rattle.hept_ast.specs.Stages.{ClockedProgram, IsAcceptedProgram}
 use Rattle.hept_ast.specs.declared.tree.Node.{Node}
-use Rattle.accepted_meaning.specs.TypedValues.{RowsFit}
+use Rattle.hept_ast.specs.TypedValues.{RowsFit}
 use Rattle.accepted_meaning.specs.Placing.{RepliesFit}
 use Rattle.accepted_meaning.specs.Ranges.{IsInRange}
 

@@ -22,7 +22,7 @@ use Rattle.hept_ast.specs.declared.tree.UnaryOp.{UnaryOp}
 use Rattle.hept_ast.specs.declared.tree.BinaryOp.{BinaryOp}
 use Rattle.hept_ast.specs.declared.tree.Form.{out-Form}
 use Rattle.hept_ast.specs.declared.tree.Form.TheOpen.{Form-F}
-use Rattle.accepted_meaning.specs.TypedValues.{FitsConst}
+use Rattle.hept_ast.specs.TypedValues.{FitsConst}
 
 -- a node of a program, with the clocks of its variables and their grades
 pub record Within : Type 0 where

@@ -17,7 +17,7 @@ use Rattle.hept_ast.specs.declared.tree.Expr.{Expr}
 use Rattle.hept_ast.specs.declared.tree.Tag.{Tag}
 use Rattle.hept_ast.specs.declared.tree.Ty.{Ty}
 use Rattle.hept_ast.specs.declared.tree.Ty.TheVariants as ty
-use Rattle.accepted_meaning.specs.TypedValues.{FitsConst}
+use Rattle.hept_ast.specs.TypedValues.{FitsConst}
 use Rattle.accepted_meaning.specs.Sound.{Within, Sees, Sound, IsTagOf, AreAllTags}
 
 -- the constant of a `last` declaration is one of its type; the variable is on the base clock and is never undefined

@@ -30,7 +30,7 @@ use Rattle.hept_ast.specs.declared.tree.Form.{out-Form}
 use Rattle.hept_ast.specs.declared.tree.Form.TheOpen.{Form-F}
 use Rattle.hept_ast.specs.Stages.{ClockedProgram}
 use Rattle.hept_ast.specs.declared.name.Place.{Place}
-use Rattle.accepted_meaning.specs.TypedValues.{FitsConst, IsValueOf, RowsFit, plain_count}
+use Rattle.hept_ast.specs.TypedValues.{FitsConst, IsValueOf, RowsFit, plain_count}
 use Rattle.accepted_meaning.specs.Sound.{AreAllTags, IsTagOf, Sees, Sound, SoundArguments, Within, branch_tags}
 use Rattle.accepted_meaning.specs.SoundNodes.{SoundPart}
 use Rattle.accepted_meaning.specs.Placing.{site_of}

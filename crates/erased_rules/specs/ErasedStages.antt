@@ -1,7 +1,7 @@
 -- Erasure keeps what holds of a program with its clocks.
 use Rattle.hept_ast.specs.Stages.{ClockedProgram, HasLeastClocks, IsClockedProgram, IsAcceptedProgram}
 use Rattle.hept_ast.specs.Erasure.{erased}
-use Rattle.erased_rules.specs.ErasedTypes.{HaveConstructors}
+use Rattle.hept_ast.specs.TypedValues.{HaveConstructors}
 
 -- the erased program with the same clocks
 abbrev pub erased_with_clocks : ClockedProgram → ClockedProgram
@@ -13,8 +13,8 @@ ErasedHasLeastClocks = (c : ClockedProgram) → HasLeastClocks c.program c.clock
 
 -- a program whose names, types and clocks are right has such an erasure
 abbrev pub ErasedKeepsClockedProgram : Type 0
-ErasedKeepsClockedProgram = (c : ClockedProgram) → HaveConstructors c.program → IsClockedProgram c → IsClockedProgram (erased_with_clocks c)
+ErasedKeepsClockedProgram = (c : ClockedProgram) → HaveConstructors c.program.types → IsClockedProgram c → IsClockedProgram (erased_with_clocks c)
 
 -- a program that is accepted has an erasure that is accepted
 abbrev pub ErasedKeepsAccepted : Type 0
-ErasedKeepsAccepted = (c : ClockedProgram) → HaveConstructors c.program → IsAcceptedProgram c → IsAcceptedProgram (erased_with_clocks c)
+ErasedKeepsAccepted = (c : ClockedProgram) → HaveConstructors c.program.types → IsAcceptedProgram c → IsAcceptedProgram (erased_with_clocks c)

@@ -1,16 +1,12 @@
 -- Erasure keeps the rules of names, types and futures.
-use Rattle.std.specs.Prelude.{◌≢◌, [], All}
 use Rattle.hept_ast.specs.Faults.{IsTyped}
+use Rattle.hept_ast.specs.TypedValues.{HaveConstructors}
 use Rattle.hept_ast.specs.Erasure.{erased}
 use Rattle.hept_ast.specs.declared.tree.Program.{Program}
 
--- each declared type has a constructor, as in every text
-abbrev pub HaveConstructors : Program → Type 0
-HaveConstructors p = All (λ t. t.constructors ≢ []) p.types
-
 -- a program without faults of names, types and futures has an erasure without them
 abbrev pub ErasedKeepsTyped : Type 0
-ErasedKeepsTyped = (p : Program) → HaveConstructors p → IsTyped p → IsTyped (erased p)
+ErasedKeepsTyped = (p : Program) → HaveConstructors p.types → IsTyped p → IsTyped (erased p)
 
 -- where a type has no constructor this is false: there is a program without faults whose erasure has one
 abbrev pub TypedNeedsConstructors : Type 0

@@ -1,6 +1,6 @@
 use crate::{
     Accepted, BinaryOp, Block, ClockPath, ClockStep, Clocked, Clocks, Const, Decl, Expr, Form,
-    Init, Memory, Name, Node, NodeId, Place, Plain, Program, Tag, Ty, Typed, UnaryOp, binary,
+    Init, Memory, Name, Node, NodeId, Place, Plain, Program, Rows, Tag, Ty, Typed, UnaryOp, binary,
     erase, erase_expr, meaning_laws, static_laws, transfer_laws, unary,
 };
 use sqlite_items::{Boxed, Items};
@@ -223,5 +223,22 @@ fn a_program_without_text_is_accepted(rt: HostRuntime) -> Result<(), Fail> {
     let nodes = accepted.program().nodes.as_slice().len();
     assert!(rt; still);
     assert_eq!(rt; nodes, 0);
+    Ok(())
+}
+
+#[test]
+fn rows_are_kept_in_their_order(rt: HostRuntime) -> Result<(), Fail> {
+    let alloc = rt.alloc();
+    let mut rows = Rows::new(alloc);
+    assert!(rt; rows.is_empty());
+    for row in [[1u32, 2], [3, 4]] {
+        let Ok(()) = rows.push(alloc, &row) else {
+            return Err(AllocError.into());
+        };
+    }
+    assert_eq!(rt; rows.len(), 2);
+    let second: &[u32] = &[3, 4];
+    assert!(rt; rows.get(1) == Some(second));
+    assert!(rt; rows.get(2).is_none());
     Ok(())
 }

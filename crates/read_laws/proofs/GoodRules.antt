@@ -17,7 +17,7 @@ use Rattle.ept_reader.specs.declared.token.Level.TheVariants as level
 use Rattle.ept_reader.specs.declared.token.Sample.{Sample}
 use Rattle.ept_reader.specs.declared.token.Token.{Token}
 use Rattle.ept_reader.specs.Grammar.{Part, Whole, Item, Type_dec, Constructor_list, Node_dec, Interface, Input_list, Output_list, Node_body, Inputs, More_inputs, Input, Names, Locals, Decls, More_decls, Last_decls, Declaration, Initial, Constant, Eqs, More_eqs, Eq, Several, Switching, Resetting, Branch_list, Branches, Branch_of, Block_of, Block_locals, State_list, States, State_of, Transitions, Weak, Strong, Escapes, Escape_list, More_escapes, Escape_of, Expression, Choosing, Then_part, Else_part, Arrows, Arrow_tail, Fbys, Fby_tail, Sampled, Infix, Operand, Operands, Prefix, Signed, After_minus, Atom, Literal, Call_tail, Called, Merging, Merge_list, Merge_branches, Merge_branch, Async_tail, Args, More_args, Symbol, word, part, Signed_operand, Value, Values, Rule, rules, at, signs, sign, grouped, sampled, between, named, names_of, declared, negative, negated, size, infix_rule}
-use Rattle.accepted_meaning.specs.TypedValues.{FitsConst}
+use Rattle.hept_ast.specs.TypedValues.{FitsConst}
 use Rattle.accepted_meaning.specs.Ranges.{FitsInit}
 use Rattle.read_laws.proofs.PartPlaces.{Each}
 use Rattle.read_laws.proofs.GoodTexts.{Every, every_append, GoodExpr, GoodForm, GoodBranchOf, GoodDecl, GoodEquation, GoodBlock, GoodBranch, GoodEscape, GoodState, GoodNode, good_const, good_var, good_last, good_unary, good_binary, good_if, good_fby, good_pre, good_arrow, good_when, good_merge, good_call, good_async_call, good_async_const, good_get, good_block, good_define, good_switch, good_reset, good_automaton}

@@ -1,5 +1,5 @@
 -- Values of types, and rows that fit declarations. A future's value is one of its plain type.
-use Rattle.std.specs.Prelude.{FitsSigned, ℕ, ◌^◌, ◌<◌, ⊤, List, [], ◌∷◌, length}
+use Rattle.std.specs.Prelude.{FitsSigned, All, ◌≡◌, ℕ, ◌^◌, ◌<◌, ⊤, List, [], ◌∷◌, length}
 use Rattle.std.specs.Int.{w32}
 use Rattle.hept_ast.specs.Types.{Plain_type, constructors_of}
 use Rattle.hept_ast.specs.declared.tree.Const.{Const as Constant}
@@ -43,3 +43,7 @@ RowFits types _ _ = ⊥
 abbrev pub RowsFit : List TypeDec → List Decl → List (List ℕ) → Type 0
 RowsFit types ds [] = ⊤
 RowsFit types ds (row ∷ rows) = RowFits types ds row × RowsFit types ds rows
+
+-- each type that is declared has a constructor
+abbrev pub HaveConstructors : List TypeDec → Type 0
+HaveConstructors types = All (λ d. d.constructors ≡ [] → ⊥) types
