@@ -30,7 +30,7 @@ use Rattle.accepted_meaning.proofs.FitsScopes.{written_is}
 
 -- ---- the parts of an equation, by its view
 
-abbrev parts_view : Surroundings → Equation-F Equation tree.Block Branch State → List Placed
+abbrev pub parts_view : Surroundings → Equation-F Equation tree.Block Branch State → List Placed
 parts_view site (Equation-F.Define p left right) = record { site = site; part = Plain p.0 left right } ∷ []
 parts_view site (Equation-F.Switch p on branches) = record { site = site; part = Switch p.0 on (map branch_case branches) } ∷ flat_map (λ b. block_parts (Branch_of on b.block.locals ∷ site) b.block) branches
 parts_view site (Equation-F.Reset p block every) = record { site = site; part = Reset p.0 every (block_sets block) } ∷ block_parts (Body_of every block.locals ∷ site) block
@@ -181,7 +181,7 @@ turned false true false = refl
 turned false false true = refl
 turned false false false = refl
 
-own_of_node : (n : ℕ) (node : Node) (x : Name) → is_in x (names (node_decls (Written n node))) ≡ is_in x (own_names node [])
+pub own_of_node : (n : ℕ) (node : Node) (x : Name) → is_in x (names (node_decls (Written n node))) ≡ is_in x (own_names node [])
 own_of_node n node x =
     ap (is_in x) (names_append (node.inputs ++ node.outputs) node.block.locals ∙ ap (λ (ys : List Name). ys ++ names node.block.locals) (names_append node.inputs node.outputs))
     ∙ is_in_append x (names node.inputs ++ names node.outputs) (names node.block.locals) ∙ ap (λ (b : Bool). b || is_in x (names node.block.locals)) (is_in_append x (names node.inputs) (names node.outputs))

@@ -78,7 +78,7 @@ home_cases r texts k z f (Under s resets) t frame (around_right i) stands = absu
 
 -- ---- no input is declared inside
 
-frame_site : (f : Scope) → IsFrame f → site_of f ≡ []
+pub frame_site : (f : Scope) → IsFrame f → site_of f ≡ []
 frame_site _ a_top = refl
 frame_site _ a_call = refl
 

@@ -13,6 +13,7 @@ pub mod StaticHomes
 pub mod StaticInside
 pub mod StaticConditions
 pub mod StaticGroups
+pub mod StaticKept
 pub mod StaticSteps
 pub mod FitsValues
 pub mod FitsWords
@@ -41,6 +42,9 @@ mod KnownSame
 pub mod TextApart
 pub mod FitsMoves
 pub mod FitsRuns
+mod TextTrees
+mod TextPlaces
+mod TextClocks
 pub mod SentSites
 mod KnownLaw
 mod KnownInside

@@ -25,7 +25,7 @@ use Rattle.accepted_meaning.specs.SoundNodes.{SoundLeft, no_left, a_left, within
 use Rattle.accepted_meaning.specs.Placing.{at_top, at_branch, at_reset, site_of}
 use Rattle.accepted_meaning.specs.Running.{Run, IsSoundRun, StandsIn, setting_of, text_run}
 use Rattle.accepted_meaning.specs.Structure.{IsEquationOf, IsCallIn}
-use Rattle.accepted_meaning.specs.Asked.{IsScoped, HasScopedClocks, IsAsked}
+use Rattle.accepted_meaning.specs.Asked.{IsScoped, IsAsked}
 use Rattle.accepted_meaning.proofs.KnownScopes.{scoped_first, scoped_step}
 use Rattle.accepted_meaning.proofs.KnownReached.{with_itself}
 use Rattle.accepted_meaning.proofs.FitsForms.{take_front}
@@ -35,6 +35,7 @@ use Rattle.accepted_meaning.proofs.FitsInterfaces.{of_call, pair_is, call_of_nod
 use Rattle.std.specs.Option.{option_map}
 use Rattle.hept_ast.specs.Settings.{written_node}
 use Rattle.accepted_meaning.proofs.StaticCalls.{node_of_name}
+use Rattle.accepted_meaning.proofs.TextClocks.{scoped_clocks}
 
 -- the call of a site, in the scope where it stands
 pub record IsSoundSite (r : Run) (site : Site) : Type 0 where
@@ -140,13 +141,13 @@ record Equation_here (r : Run) (k : Within) (s : Scope) (e : Equation) : Type 0 
 base : (r : Run) (k : Within) (s : Scope) → StandsIn r k s → IsAsked r s → Here r k s []
 base r k s stands asked = record { stands = stands; asked = asked; scoped = tt }
 
-good_right : (r : Run) → HasScopedClocks r → (k : Within) (s : Scope) (e : Equation) (left : List Name) (right : Expr) (c : Clock) (ts : List Ty) → Equation_here r k s e → (left ≡ [] → ⊥) → Sound k (site_of s) right c ts →
+good_right : (r : Run) → (k : Within) (s : Scope) (e : Equation) (left : List Name) (right : Expr) (c : Clock) (ts : List Ty) → Equation_here r k s e → (left ≡ [] → ⊥) → Sound k (site_of s) right c ts →
     SoundLeft k (site_of s) c left ts → Good r (Expression right (clock_of_left (setting_of r) left s) s)
-good_right r scoped k s e left right c ts h some sound no_left = absurd (some refl)
-good_right r scoped k s e left right c ts h some sound (a_left {x = x} {d = d} sees input rest) =
+good_right r k s e left right c ts h some sound no_left = absurd (some refl)
+good_right r k s e left right c ts h some sound (a_left {x = x} {d = d} sees input rest) =
     let same : clock_seen (setting_of r) x s ≡ c = clock_here r k s x d c h.stands.stands sees in
     subst (λ (b : Clock). Good r (Expression right b s)) (sym same)
-    (good_one r k s c right ts (record { stands = h.stands.stands; asked = h.asked; scoped = scoped k s x d c h.stands.stands sees }) sound)
+    (good_one r k s c right ts (record { stands = h.stands.stands; asked = h.asked; scoped = scoped_clocks r k s x d c h.stands.stands sees }) sound)
 
 good_bodies : (r : Run) (k : Within) (s : Scope) (e : Equation) (p : Place) (on : Expr) (branches bs : List Branch) → Equation_here r k s e → out-Equation e ≡ Equation-F.Switch p on branches →
     ((b : Branch) → Contains bs b → Contains branches b) → All_good r (map (λ b. Body (In_branch s on b)) bs)
@@ -178,18 +179,18 @@ good_states r k s e p states (q ∷ qs) n h is at =
           (good_states r k s e p states qs (suc n) h is (λ i x f. let more : n + suc i ≡ suc n + i = omega arith in ap (slice_get states) (sym more) ∙ at (suc i) x f)),
     )
 
-good_equation : (r : Run) → HasScopedClocks r → HasLefts r → (k : Within) (s : Scope) (e : Equation) (v : Equation-F Equation tree.Block Branch State) → Equation_here r k s e → out-Equation e ≡ v → All_good r (equation_pieces (setting_of r) v s)
-good_equation r scoped lefts k s e (Equation-F.Define p left right) h is =
+good_equation : (r : Run) → HasLefts r → (k : Within) (s : Scope) (e : Equation) (v : Equation-F Equation tree.Block Branch State) → Equation_here r k s e → out-Equation e ≡ v → All_good r (equation_pieces (setting_of r) v s)
+good_equation r lefts k s e (Equation-F.Define p left right) h is =
     let o = sound_define r k s e p left right h.stands is in
-    (good_right r scoped k s e left right o.0 o.1 h (λ empty. lefts k s e p right h.stands (is ∙ ap (λ (xs : List Name). Equation-F.Define p xs right) empty)) o.2 o.3, tt)
-good_equation r scoped lefts k s e (Equation-F.Switch p on branches) h is =
+    (good_right r k s e left right o.0 o.1 h (λ empty. lefts k s e p right h.stands (is ∙ ap (λ (xs : List Name). Equation-F.Define p xs right) empty)) o.2 o.3, tt)
+good_equation r lefts k s e (Equation-F.Switch p on branches) h is =
     let o = sound_switch r k s e p on branches h.stands is in
     (good_one r k s [] on (o.type ∷ []) (base r k s h.stands.stands h.asked) o.sound, good_bodies r k s e p on branches branches h is (λ b i. i))
-good_equation r scoped lefts k s e (Equation-F.Reset p block every) h is =
+good_equation r lefts k s e (Equation-F.Reset p block every) h is =
     let o = sound_reset r k s e p block every h.stands is in
     let st : StandsIn r k s = h.stands.stands in
     ((k, record { number = st.number; of_node = st.of_node; text = st.text; placed = at_reset st.placed h.stands.in_block is }, h.asked), (good_one r k s [] every _ (base r k s st h.asked) o.0.sound, tt))
-good_equation r scoped lefts k s e (Equation-F.Automaton p states) h is = good_states r k s e p states states 0 h is (λ i q f. let same : 0 + i ≡ i = omega arith in ap (slice_get states) same ∙ f)
+good_equation r lefts k s e (Equation-F.Automaton p states) h is = good_states r k s e p states states 0 h is (λ i q f. let same : 0 + i ≡ i = omega arith in ap (slice_get states) same ∙ f)
 
 good_block : (r : Run) (k : Within) (s : Scope) (es : List Equation) → StandsIn r k s → IsAsked r s → ((e : Equation) → Contains es e → Contains (block_of s).body e) → All_good r (map (λ e. Statement e s) es)
 good_block r k s [] stands asked inside = tt
@@ -197,11 +198,11 @@ good_block r k s (e ∷ es) stands asked inside =
     ((k, record { stands = stands; in_block = inside e (0, omega arith, refl) }, asked), good_block r k s es stands asked (λ x i. inside x (Contains-append_right (e ∷ []) es x i)))
 
 -- the pieces of a sound piece are sound
-pub good_pieces : (r : Run) → IsSoundRun r → HasScopedClocks r → HasLefts r → (p : Piece) → Good r p → All_good r (pieces (setting_of r) p)
-good_pieces r run scoped lefts (Expression e c s) (k, ts, stands, asked, sc, sound) = good_form r run k s e c ts (record { stands = stands; asked = asked; scoped = sc }) sound
-good_pieces r run scoped lefts (Statement e s) (k, stands, asked) = good_equation r scoped lefts k s e (out-Equation e) (record { stands = stands; asked = asked }) refl
-good_pieces r run scoped lefts (Core_statement e s) h = absurd h
-good_pieces r run scoped lefts (Body s) (k, stands, asked) =
+pub good_pieces : (r : Run) → IsSoundRun r → HasLefts r → (p : Piece) → Good r p → All_good r (pieces (setting_of r) p)
+good_pieces r run lefts (Expression e c s) (k, ts, stands, asked, sc, sound) = good_form r run k s e c ts (record { stands = stands; asked = asked; scoped = sc }) sound
+good_pieces r run lefts (Statement e s) (k, stands, asked) = good_equation r lefts k s e (out-Equation e) (record { stands = stands; asked = asked }) refl
+good_pieces r run lefts (Core_statement e s) h = absurd h
+good_pieces r run lefts (Body s) (k, stands, asked) =
     subst (λ (text : Text). All_good r (body_pieces (setting_of r) text s)) (sym stands.text) (good_block r k s (block_of s).body stands asked (λ e i. i))
 
 -- ---- sites
@@ -254,10 +255,10 @@ own_sites r run (Statement e s) h = tt
 own_sites r run (Core_statement e s) h = tt
 own_sites r run (Body s) h = tt
 
-module _ (r : Run) (run : IsSoundRun r) (scoped : HasScopedClocks r) (lefts : HasLefts r) where
+module _ (r : Run) (run : IsSoundRun r) (lefts : HasLefts r) where
   mutual
     sites_of : (p : Piece) (sites : List Site) → SitesOf (setting_of r) p sites → Good r p → Sound_sites r sites
-    sites_of p sites (whole {sites = inner} h) good = sites_append r (own_site (setting_of r) p) inner (own_sites r run p good) (sites_of_all (pieces (setting_of r) p) inner h (good_pieces r run scoped lefts p good))
+    sites_of p sites (whole {sites = inner} h) good = sites_append r (own_site (setting_of r) p) inner (own_sites r run p good) (sites_of_all (pieces (setting_of r) p) inner h (good_pieces r run lefts p good))
 
     sites_of_all : (ps : List Piece) (sites : List Site) → SitesOfAll (setting_of r) ps sites → All_good r ps → Sound_sites r sites
     sites_of_all ps sites none good = tt

@@ -28,12 +28,13 @@ Range Q low high = (m : ℕ) → low ≤ m → m < high → Q m
 narrow : (Q : ℕ → Type 0) (a b c d : ℕ) → Range Q a b → a ≤ c → d ≤ b → Range Q c d
 narrow Q a b c d h l r m low high = h m (omega (arith, l, low)) (omega (arith, r, high))
 
-module _ (P : Name → Type 0) (Q : ℕ → Type 0) (U : Name → Type 0) where
+-- variables and numbers of a zone, and what steps may follow a clock there
+module _ (P : Name → Type 0) (Q : ℕ → Type 0) (V : Term → Name → Type 0) where
   abbrev pub TermIn : Term → Type 0
   TermIn Base = ⊤
   TermIn (Of x) = P x
   TermIn (Inner n) = Q n
-  TermIn (On t tag z) = TermIn t × U z
+  TermIn (On t tag z) = TermIn t × V t z
 
   abbrev pub CondIn : Condition → Type 0
   CondIn c = (TermIn c.left × TermIn c.right) ⊎ ((x : Name) × (c.left ≡ Of x) × (c.right ≡ Base))
@@ -41,8 +42,9 @@ module _ (P : Name → Type 0) (Q : ℕ → Type 0) (U : Name → Type 0) where
   abbrev pub Are : List Condition → Type 0
   Are cs = Each CondIn cs
 
-  abbrev pub Ok : Expr → Type 0
-  Ok e = StepIn U (out-Form e.form)
+  -- the variable of a `when` or `merge` may follow the clock that it has here
+  abbrev pub Ok : List Name → Expr → Type 0
+  Ok own e = StepIn (λ z. V (read_clock own z) z) (out-Form e.form)
 
   both : (cs ds : List Condition) → Are cs → Are ds → Are (cs ++ ds)
   both [] ds p q = q
@@ -91,7 +93,7 @@ module _ (P : Name → Type 0) (Q : ℕ → Type 0) (U : Name → Type 0) where
     mutual
       unfolding static out-Form Carrier.out
 
-      expression_in : (n p : ℕ) (f : Form) → Range Q n (n + (1 + length (below f))) → StepIn U (out-Form f) → Each Ok (below f) → Are (expression own n p f)
+      expression_in : (n p : ℕ) (f : Form) → Range Q n (n + (1 + length (below f))) → StepIn (λ z. V (read_clock own z) z) (out-Form f) → Each (Ok own) (below f) → Are (expression own n p f)
       expression_in n p (Const k) h s u = tt
       expression_in n p (Var x) h s u = reading_in p n x (h n (omega arith) (omega arith))
       expression_in n p (Last x) h s u = reading_in p n x (h n (omega arith) (omega arith))
@@ -99,27 +101,27 @@ module _ (P : Name → Type 0) (Q : ℕ → Type 0) (U : Name → Type 0) where
       expression_in n p (Binary' op z a t b) h s u =
           let l = length-append (inside_row a) (inside_row b) in
           let q = h n (omega arith) (omega arith) in
-          both _ _ (operands_in p (Inner n) (n + 1) a q (narrow Q _ _ _ _ h (omega arith) (omega arith)) (each_left Ok (inside_row a) (inside_row b) u))
-          (operands_in p (Inner n) (n + 1 + length (inside_row a)) b q (narrow Q _ _ _ _ h (omega arith) (omega arith)) (each_right Ok (inside_row a) (inside_row b) u))
+          both _ _ (operands_in p (Inner n) (n + 1) a q (narrow Q _ _ _ _ h (omega arith) (omega arith)) (each_left (Ok own) (inside_row a) (inside_row b) u))
+          (operands_in p (Inner n) (n + 1 + length (inside_row a)) b q (narrow Q _ _ _ _ h (omega arith) (omega arith)) (each_right (Ok own) (inside_row a) (inside_row b) u))
       expression_in n p (If' z c t a w b) h s u =
           let l = length-append (inside_row c ++ inside_row a) (inside_row b) in
           let m = length-append (inside_row c) (inside_row a) in
           let q = h n (omega arith) (omega arith) in
-          let ca = each_left Ok (inside_row c ++ inside_row a) (inside_row b) u in
-          both _ _ (both _ _ (operands_in p (Inner n) (n + 1) c q (narrow Q _ _ _ _ h (omega arith) (omega arith)) (each_left Ok (inside_row c) (inside_row a) ca))
-          (operands_in p (Inner n) (n + 1 + length (inside_row c)) a q (narrow Q _ _ _ _ h (omega arith) (omega arith)) (each_right Ok (inside_row c) (inside_row a) ca)))
-          (operands_in p (Inner n) (n + 1 + length (inside_row c) + length (inside_row a)) b q (narrow Q _ _ _ _ h (omega arith) (omega arith)) (each_right Ok (inside_row c ++ inside_row a) (inside_row b) u))
+          let ca = each_left (Ok own) (inside_row c ++ inside_row a) (inside_row b) u in
+          both _ _ (both _ _ (operands_in p (Inner n) (n + 1) c q (narrow Q _ _ _ _ h (omega arith) (omega arith)) (each_left (Ok own) (inside_row c) (inside_row a) ca))
+          (operands_in p (Inner n) (n + 1 + length (inside_row c)) a q (narrow Q _ _ _ _ h (omega arith) (omega arith)) (each_right (Ok own) (inside_row c) (inside_row a) ca)))
+          (operands_in p (Inner n) (n + 1 + length (inside_row c) + length (inside_row a)) b q (narrow Q _ _ _ _ h (omega arith) (omega arith)) (each_right (Ok own) (inside_row c ++ inside_row a) (inside_row b) u))
       expression_in n p (Fby' z a t b) h s u =
           let l = length-append (inside_row a) (inside_row b) in
           let q = h n (omega arith) (omega arith) in
-          both _ _ (operands_in p (Inner n) (n + 1) a q (narrow Q _ _ _ _ h (omega arith) (omega arith)) (each_left Ok (inside_row a) (inside_row b) u))
-          (operands_in p (Inner n) (n + 1 + length (inside_row a)) b q (narrow Q _ _ _ _ h (omega arith) (omega arith)) (each_right Ok (inside_row a) (inside_row b) u))
+          both _ _ (operands_in p (Inner n) (n + 1) a q (narrow Q _ _ _ _ h (omega arith) (omega arith)) (each_left (Ok own) (inside_row a) (inside_row b) u))
+          (operands_in p (Inner n) (n + 1 + length (inside_row a)) b q (narrow Q _ _ _ _ h (omega arith) (omega arith)) (each_right (Ok own) (inside_row a) (inside_row b) u))
       expression_in n p (Pre' z a) h s u = operands_in p (Inner n) (n + 1) a (h n (omega arith) (omega arith)) (narrow Q _ _ _ _ h (omega arith) (omega arith)) u
       expression_in n p (Arrow' z a t b) h s u =
           let l = length-append (inside_row a) (inside_row b) in
           let q = h n (omega arith) (omega arith) in
-          both _ _ (operands_in p (Inner n) (n + 1) a q (narrow Q _ _ _ _ h (omega arith) (omega arith)) (each_left Ok (inside_row a) (inside_row b) u))
-          (operands_in p (Inner n) (n + 1 + length (inside_row a)) b q (narrow Q _ _ _ _ h (omega arith) (omega arith)) (each_right Ok (inside_row a) (inside_row b) u))
+          both _ _ (operands_in p (Inner n) (n + 1) a q (narrow Q _ _ _ _ h (omega arith) (omega arith)) (each_left (Ok own) (inside_row a) (inside_row b) u))
+          (operands_in p (Inner n) (n + 1 + length (inside_row a)) b q (narrow Q _ _ _ _ h (omega arith) (omega arith)) (each_right (Ok own) (inside_row a) (inside_row b) u))
       expression_in n p (When' z a tag x) h s u =
           let d = read_in x in
           both _ _ (both _ _ (operands_in p (read_clock own x) (n + 1) a d (narrow Q _ _ _ _ h (omega arith) (omega arith)) u)
@@ -134,30 +136,30 @@ module _ (P : Name → Type 0) (Q : ℕ → Type 0) (U : Name → Type 0) where
       expression_in n p (AsyncConst k) h s u = tt
       expression_in n p (Get' z a) h s u = operands_in p (Inner n) (n + 1) a (h n (omega arith) (omega arith)) (narrow Q _ _ _ _ h (omega arith) (omega arith)) u
 
-      operands_in : (p : ℕ) (on : Term) (m : ℕ) {k : _} (row : Row_of-Expr k) → TermIn on → Range Q m (m + length (inside_row row)) → Each Ok (inside_row row) → Are (operands own p on m row)
+      operands_in : (p : ℕ) (on : Term) (m : ℕ) {k : _} (row : Row_of-Expr k) → TermIn on → Range Q m (m + length (inside_row row)) → Each (Ok own) (inside_row row) → Are (operands own p on m row)
       operands_in p on m end_of-Expr d h u = tt
       operands_in p on m (more_of-Expr q form rest) d h u =
           let l = length-append (below form) (inside_row rest) in
           let t = term_in m form (h m (omega arith) (omega arith)) in
           both (equal p (term_of own m form) on ++ expression own m q.0 form) (operands own p on (m + 1 + length (below form)) rest)
           (both (equal p (term_of own m form) on) (expression own m q.0 form) (one p (term_of own m form) on t d)
-          (expression_in m q.0 form (narrow Q _ _ _ _ h (omega arith) (omega arith)) u.0 (each_left Ok (below form) (inside_row rest) u.1)))
-          (operands_in p on (m + 1 + length (below form)) rest d (narrow Q _ _ _ _ h (omega arith) (omega arith)) (each_right Ok (below form) (inside_row rest) u.1))
+          (expression_in m q.0 form (narrow Q _ _ _ _ h (omega arith) (omega arith)) u.0 (each_left (Ok own) (below form) (inside_row rest) u.1)))
+          (operands_in p on (m + 1 + length (below form)) rest d (narrow Q _ _ _ _ h (omega arith) (omega arith)) (each_right (Ok own) (below form) (inside_row rest) u.1))
 
-      branches_in : (p : ℕ) (x : Name) (m : ℕ) {k : _} (row : Row_of-MergeBranch k) → U x → Range Q m (m + length (inside_branches row)) → Each Ok (inside_branches row) → Are (branches own p x m row)
+      branches_in : (p : ℕ) (x : Name) (m : ℕ) {k : _} (row : Row_of-MergeBranch k) → V (read_clock own x) x → Range Q m (m + length (inside_branches row)) → Each (Ok own) (inside_branches row) → Are (branches own p x m row)
       branches_in p x m end_of-MergeBranch s h u = tt
       branches_in p x m (more_of-MergeBranch r tag q form rest) s h u =
           let l = length-append (below form) (inside_branches rest) in
           let t = term_in m form (h m (omega arith) (omega arith)) in
           both (equal p (term_of own m form) (On (read_clock own x) tag x) ++ expression own m q.0 form) (branches own p x (m + 1 + length (below form)) rest)
           (both (equal p (term_of own m form) (On (read_clock own x) tag x)) (expression own m q.0 form) (one p (term_of own m form) (On (read_clock own x) tag x) t (read_in x, s))
-          (expression_in m q.0 form (narrow Q _ _ _ _ h (omega arith) (omega arith)) u.0 (each_left Ok (below form) (inside_branches rest) u.1)))
-          (branches_in p x (m + 1 + length (below form)) rest s (narrow Q _ _ _ _ h (omega arith) (omega arith)) (each_right Ok (below form) (inside_branches rest) u.1))
+          (expression_in m q.0 form (narrow Q _ _ _ _ h (omega arith) (omega arith)) u.0 (each_left (Ok own) (below form) (inside_branches rest) u.1)))
+          (branches_in p x (m + 1 + length (below form)) rest s (narrow Q _ _ _ _ h (omega arith) (omega arith)) (each_right (Ok own) (below form) (inside_branches rest) u.1))
 
-    based_in : (n : ℕ) (e : Expr) → Range Q n (n + length (inside e ++ [])) → Each Ok (inside e ++ []) → Are (on_base own n e)
+    based_in : (n : ℕ) (e : Expr) → Range Q n (n + length (inside e ++ [])) → Each (Ok own) (inside e ++ []) → Are (on_base own n e)
     based_in n e h u =
         let l = length-append (inside e) [] in
-        let v = each_left Ok (inside e) [] u in
+        let v = each_left (Ok own) (inside e) [] u in
         let t = term_in n e.form (h n (omega arith) (omega arith)) in
         both (equal e.place.0 (term_of own n e.form) Base) (expression own n e.place.0 e.form) (one e.place.0 (term_of own n e.form) Base t tt)
         (expression_in n e.place.0 e.form (narrow Q _ _ _ _ h (omega arith) (omega arith)) v.0 v.1)
@@ -174,11 +176,11 @@ module _ (P : Name → Type 0) (Q : ℕ → Type 0) (U : Name → Type 0) where
     defined_tested p right x false e d = both (equal p (Of x) Base) (equal p right Base) (outer p x) (one p right Base d tt)
 
     -- the conditions of a part whose own variables, numbers and steps lie in the zone
-    pub part_in : (seen : List Decl) (n : ℕ) (q : Part) → Range Q n (n + length (flat_map inside (expressions_of q))) → Each Ok (flat_map inside (expressions_of q)) → Are (part_conditions own seen n q)
+    pub part_in : (seen : List Decl) (n : ℕ) (q : Part) → Range Q n (n + length (flat_map inside (expressions_of q))) → Each (Ok own) (flat_map inside (expressions_of q)) → Are (part_conditions own seen n q)
     part_in seen n (Block ds equations) h u = flat (λ (d : Decl). if is_some d.init then equal d.place.0 (Of d.name) Base else []) (λ d. last_in d (is_some d.init)) ds
     part_in seen n (Plain p left right) h u =
         let l = length-append (inside right) [] in
-        let v = each_left Ok (inside right) [] u in
+        let v = each_left (Ok own) (inside right) [] u in
         let t = term_in n right.form (h n (omega arith) (omega arith)) in
         both (flat_map (defined own p (term_of own n right.form)) left) (expression own n right.place.0 right.form)
         (flat (defined own p (term_of own n right.form)) (λ x. defined_tested p (term_of own n right.form) x (is_in x own) refl t) left)

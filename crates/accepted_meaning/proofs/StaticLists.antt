@@ -144,7 +144,7 @@ same_tag_is (tag.Truth b) (tag.Constructor y) e = absurd (false≢true e)
 same_tag_is (tag.Constructor x) (tag.Truth c) e = absurd (false≢true e)
 same_tag_is (tag.Constructor x) (tag.Constructor y) e = ap tag.Constructor (same_is x y e)
 
-same_tag_self : (a : Tag) → same_tag a a ≡ true
+pub same_tag_self : (a : Tag) → same_tag a a ≡ true
 same_tag_self (tag.Truth true) = refl
 same_tag_self (tag.Truth false) = refl
 same_tag_self (tag.Constructor x) = same_self x

@@ -19,7 +19,7 @@ use Rattle.accepted_meaning.specs.Placing.{RepliesFit}
 use Rattle.accepted_meaning.specs.ReplyLaws.{IsOwnReplied, OutputsAreReplied, SentIsReplied, without_replies}
 use Rattle.accepted_meaning.proofs.StaticNodes.{at_place}
 use Rattle.accepted_meaning.proofs.KnownLaw.{accepted_has_outputs}
-use Rattle.accepted_meaning.proofs.SentLaw.{scoped_has_sent}
+use Rattle.accepted_meaning.proofs.SentLaw.{accepted_has_sent}
 use Rattle.accepted_meaning.proofs.TextLaws.{accepted_lefts_agree, accepted_outputs_fit}
 
 -- without replies every reply fits
@@ -53,7 +53,7 @@ module _ (c : ClockedProgram) (k : ℕ) (node : Node) (marked : Marks) (rows : L
 
   from_sent : (i : ℕ) (site : Site) (calls : List (Bool × List ℕ)) → slice_get sites i ≡ Some site → Sent (with_replies w sites lists) rows site calls → Sent w rows site calls
   from_sent i site calls at s =
-      let (known, is, fits) = scoped_has_sent c k node marked no_replies rows h.in_range h.accepted h.scoped h.chosen (no_replies_fit c k node marked) h.rows_fit sites site h.sites_are (at_place sites i site at) in
+      let (known, is, fits) = accepted_has_sent c k node marked no_replies rows h.in_range h.accepted h.chosen (no_replies_fit c k node marked) h.rows_fit sites site h.sites_are (at_place sites i site at) in
       subst (λ (l : List (Bool × List ℕ)). Sent w rows site l) (one_sent (with_replies w sites lists) rows site known calls (to_sent i site known at is) s) is
 
 pub outputs_are_replied : OutputsAreReplied

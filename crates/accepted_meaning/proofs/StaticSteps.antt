@@ -1,21 +1,21 @@
--- The clocks of least total length have no steps but those of variables that are read in the same block, up to reset bodies.
-use Rattle.std.proofs.Common.{◌≡◌, ℕ, ◌+◌, ◌≤◌, Bool, true, false, ◌||◌, ◌&&◌, cond, if◌then◌else◌, List, [], ◌∷◌, ◌++◌, map, length, filter, sum_by, refl, sym, ap, subst, ◌∙◌, ◌⊎◌, inl, inr, ⊎_elim, Contains, Option, Some, None, is_some, arith, nat_lt}
+-- The clocks of least total length have no steps but those of variables that are seen in the same block, up to reset bodies, on the clock of the steps before.
+use Rattle.std.proofs.Common.{◌≡◌, ℕ, ◌+◌, ◌≤◌, Bool, true, false, ◌||◌, ◌&&◌, cond, if◌then◌else◌, List, [], ◌∷◌, ◌++◌, length, sum_by, refl, sym, ap, subst, ◌∙◌, ◌⊎◌, inl, inr, ⊎_elim, Contains, Option, Some, None, is_some, arith, nat_lt}
 use Rattle.std.specs.List.{AllByRecursion as Each, list_any, flat_map}
 use Rattle.std.proofs.lemmas.Bool.{false≢true, and_parts, and_from, lt-ltb, le-ltb}
 use Rattle.std.proofs.lemmas.List.Sums.{sum_by-cons}
-use Rattle.std.proofs.lemmas.List.Elements.{filter-append, All-weaker, recursion_from_All}
-use Rattle.hept_ast.specs.Texts.{Name, is_in, names, same}
+use Rattle.std.proofs.lemmas.List.Elements.{All-weaker, recursion_from_All}
+use Rattle.hept_ast.specs.Texts.{Name, is_in, names}
 use Rattle.hept_ast.specs.Scopes.{Clock}
 use Rattle.hept_ast.specs.Parts.{Surroundings, Placed, declaration, expressions_of, inside, parts, seen_at, variables}
-use Rattle.hept_ast.specs.Clocks.{AreClocks, Assignment, Base, Condition, Inner, Meets, Of, On, Term, clock, conditions, equal, numbered, own_names, part_conditions, total_length}
+use Rattle.hept_ast.specs.Clocks.{AreClocks, Assignment, Base, Condition, Inner, Meets, Of, On, Term, clock, conditions, equal, numbered, own_names, part_conditions, read_clock, total_length}
 use Rattle.hept_ast.specs.declared.tree.ClockStep.{ClockStep}
 use Rattle.hept_ast.specs.declared.tree.Decl.{Decl}
 use Rattle.hept_ast.specs.declared.tree.Expr.{Expr}
 use Rattle.hept_ast.specs.declared.tree.Ty.{Ty}
 use Rattle.hept_ast.specs.declared.tree.Form.{out-Form}
 use Rattle.accepted_meaning.specs.Sound.{Within, Sees, Sound, is_constant, is_async_constant, is_variable, is_last, is_unary, is_binary, is_if, is_fby, is_pre, is_arrow, is_when, is_merge, is_call, is_async_call, is_get}
-use Rattle.accepted_meaning.specs.SoundNodes.{AreStepsSeen, IsSeenBeside, NamesDiffer, SoundPart}
-use Rattle.accepted_meaning.proofs.StaticLists.{same_is}
+use Rattle.accepted_meaning.specs.SoundNodes.{AreSeenBeside, AreStepsSeen, IsSeenBeside, NamesDiffer, SoundPart}
+use Rattle.accepted_meaning.proofs.StaticKept.{AllUsed, kept, kept_short, kept_step, none_dropped, same_clock, same_clock_is, same_clock_self}
 use Rattle.accepted_meaning.proofs.StaticExpressions.{assigned, meets_left, meets_right}
 use Rattle.accepted_meaning.proofs.StaticInside.{SoundAt, part_inside}
 use Rattle.accepted_meaning.proofs.StaticConditions.{Are, CondIn, Ok, Range, StepIn, TermIn, interface, part_in}
@@ -41,29 +41,7 @@ step_seen k site U h e c ts (is_call o n s f l m) = subst (StepIn U) (sym o) tt
 step_seen k site U h e c ts (is_async_call o n s f l m) = subst (StepIn U) (sym o) tt
 step_seen k site U h e c ts (is_get o s f) = subst (StepIn U) (sym o) tt
 
--- ---- filters and sums
-
-filter_short : {X : Type 0} (p : X → Bool) (xs : List X) → length (filter p xs) ≤ length xs
-filter_short p [] = omega arith
-filter_short {X} p (x ∷ xs) = go (p x) (filter_short p xs)
-  where
-    go : (b : Bool) → length (filter p xs) ≤ length xs → length (cond b (x ∷ filter p xs) (filter p xs)) ≤ length (x ∷ xs)
-    go true h = omega arith
-    go false h = omega arith
-
--- a list that is not shortened passes whole
-none_dropped : (p : ClockStep → Bool) (xs : List ClockStep) → length xs ≤ length (filter p xs) → (z : Name) → is_in z (map (λ s. s.name) xs) ≡ true → (s : ClockStep) × (z ≡ s.name) × (p s ≡ true)
-none_dropped p [] h z e = absurd (false≢true e)
-none_dropped p (x ∷ xs) h z e = go (p x) refl h (same z x.name) refl e (λ (k : length xs ≤ length (filter p xs)) (f : is_in z (map (λ (s : ClockStep). s.name) xs) ≡ true). none_dropped p xs k z f)
-  where
-    short : length (filter p xs) ≤ length xs
-    short = filter_short p xs
-
-    go : (b : Bool) → p x ≡ b → length (x ∷ xs) ≤ length (cond b (x ∷ filter p xs) (filter p xs)) → (t : Bool) → same z x.name ≡ t → t || is_in z (map (λ (s : ClockStep). s.name) xs) ≡ true →
-        (length xs ≤ length (filter p xs) → is_in z (map (λ (s : ClockStep). s.name) xs) ≡ true → (s : ClockStep) × (z ≡ s.name) × (p s ≡ true)) → (s : ClockStep) × (z ≡ s.name) × (p s ≡ true)
-    go true i h true s e later = (x, same_is z x.name s, i)
-    go true i h false s e later = later (omega arith) e
-    go false i h t s e later = let l = short in absurd (omega arith)
+-- ---- sums
 
 -- sums of no larger numbers that are no smaller in sum are the same numbers
 sum_below : {X : Type 0} (f g : X → ℕ) → ((x : X) → f x ≤ g x) → (xs : List X) → sum_by f xs ≤ sum_by g xs
@@ -129,11 +107,15 @@ module _ (k : Within) (h : Timed k) (x : Name) (x_is : x ≡ peak_of k.node x) w
   abbrev seen_here : Placed → Name → Bool
   seen_here q z = is_some (declaration (seen_at k.node q.site) z) && (is_in z (own q) || is_base (k.clock z))
 
-  abbrev used : Name → Bool
-  used z = list_any (λ q. in_group q && seen_here q z) (parts k.node)
+  abbrev seen_there : Name → Bool
+  seen_there z = list_any (λ q. in_group q && seen_here q z) (parts k.node)
+
+  -- a step is used if its variable is seen there on the clock of the steps before it
+  abbrev used : Clock → Name → Bool
+  used before z = seen_there z && same_clock (k.clock z) before
 
   abbrev keep : Clock → Clock
-  keep c = filter (λ s. used s.name) c
+  keep c = kept used [] c
 
   abbrev change : Bool → Clock → Clock
   change b c = if b then keep c else c
@@ -163,17 +145,17 @@ module _ (k : Within) (h : Timed k) (x : Name) (x_is : x ≡ peak_of k.node x) w
   abbrev NumberIn : Bool → ℕ → Type 0
   NumberIn b n = grouped 0 (parts k.node) n ≡ b
 
-  abbrev UsedIn : Bool → Name → Type 0
-  UsedIn b z = b ≡ true → used z ≡ true
+  abbrev UsedIn : Bool → Term → Name → Type 0
+  UsedIn b t z = b ≡ true → used (clock old t) z ≡ true
 
   change_base : (b : Bool) → change b [] ≡ []
   change_base true = refl
   change_base false = refl
 
-  change_step : (b : Bool) (c d : Clock) (s : ClockStep) → UsedIn b s.name → d ≡ change b c → d ++ s ∷ [] ≡ change b (c ++ s ∷ [])
+  change_step : (b : Bool) (c d : Clock) (s : ClockStep) → (b ≡ true → used c s.name ≡ true) → d ≡ change b c → d ++ s ∷ [] ≡ change b (c ++ s ∷ [])
   change_step false c d s u e = ap (λ l. l ++ s ∷ []) e
   change_step true c d s u e =
-      ap (λ l. l ++ s ∷ []) e ∙ sym (filter-append (λ (s : ClockStep). used s.name) c (s ∷ []) ∙ ap (λ b. keep c ++ cond b (s ∷ []) []) (u refl))
+      ap (λ l. l ++ s ∷ []) e ∙ sym (kept_step used [] c s ∙ ap (λ b. keep c ++ cond b (s ∷ []) []) (u refl))
 
   term_changed : (b : Bool) (t : Term) → TermIn (VariableIn b) (NumberIn b) (UsedIn b) t → clock new t ≡ change b (clock old t)
   term_changed b Base i = sym (change_base b)
@@ -258,11 +240,11 @@ module _ (k : Within) (h : Timed k) (x : Name) (x_is : x ≡ peak_of k.node x) w
       second : k.clock z ≡ [] → is_in z (own q) || is_base (k.clock z) ≡ true
       second e = or_true (is_in z (own q)) (is_base (k.clock z)) (ap is_base e)
 
-  seen_again : (q : Placed) (z : Name) → seen_here q z ≡ true → (d : Decl) × (c : Clock) × Sees k q.site z d c
-  seen_again q z e =
+  seen_again : (q : Placed) (z : Name) (c : Clock) → seen_here q z ≡ true → k.clock z ≡ c → (d : Decl) × Sees k q.site z d c
+  seen_again q z c e same_there =
       let (some, place) = and_parts (is_some (declaration (seen_at k.node q.site) z)) (is_in z (own q) || is_base (k.clock z)) e in
       let (d, is) = some_of (declaration (seen_at k.node q.site) z) refl some in
-      (d, (if is_in z (own q) then k.clock z else []), record { declared = is; here = refl; outer = outer_of (is_in z (own q)) refl place })
+      (d, record { declared = is; here = here_of (is_in z (own q)) place; outer = outer_of (is_in z (own q)) refl place })
     where
       some_of : (o : Option Decl) → declaration (seen_at k.node q.site) z ≡ o → is_some o ≡ true → (d : Decl) × (declaration (seen_at k.node q.site) z ≡ Some d)
       some_of None s e = absurd (false≢true e)
@@ -272,17 +254,32 @@ module _ (k : Within) (h : Timed k) (x : Name) (x_is : x ≡ peak_of k.node x) w
       base_of [] s e = s
       base_of (t ∷ ts) s e = absurd (false≢true e)
 
+      here_of : (b : Bool) → b || is_base (k.clock z) ≡ true → (if b then k.clock z else []) ≡ c
+      here_of true e = same_there
+      here_of false e = sym (base_of (k.clock z) refl e) ∙ same_there
+
       outer_of : (b : Bool) → is_in z (own q) ≡ b → b || is_base (k.clock z) ≡ true → (is_in z (own q) ≡ true) ⊎ (k.clock z ≡ [])
       outer_of true s e = inl s
       outer_of false s e = inr (base_of (k.clock z) refl e)
 
-  steps_in : (q : Placed) → Contains (parts k.node) q → Each (Ok (VariableIn (in_group q)) (NumberIn (in_group q)) (UsedIn (in_group q))) (flat_map inside (expressions_of q.part))
+  -- a step of this variable, behind the clock that it has at a part, is used
+  abbrev UsedAt : Placed → Name → Type 0
+  UsedAt q z = UsedIn (in_group q) (read_clock (own q) z) z
+
+  steps_in : (q : Placed) → Contains (parts k.node) q → Each (Ok (VariableIn (in_group q)) (NumberIn (in_group q)) (UsedIn (in_group q)) (own q)) (flat_map inside (expressions_of q.part))
   steps_in q at =
-      recursion_from_All (λ e. StepIn (UsedIn (in_group q)) (out-Form e.form)) (flat_map inside (expressions_of q.part))
-      (All-weaker (SoundAt k q.site) (λ e. StepIn (UsedIn (in_group q)) (out-Form e.form)) (λ e s. step_seen k q.site (UsedIn (in_group q)) uses e s.0 s.1 s.2) (flat_map inside (expressions_of q.part)) (part_inside k q.site q.part (h.sound_parts q at)))
+      recursion_from_All (λ e. StepIn (UsedAt q) (out-Form e.form)) (flat_map inside (expressions_of q.part))
+      (All-weaker (SoundAt k q.site) (λ e. StepIn (UsedAt q) (out-Form e.form)) (λ e s. step_seen k q.site (UsedAt q) uses e s.0 s.1 s.2) (flat_map inside (expressions_of q.part)) (part_inside k q.site q.part (h.sound_parts q at)))
     where
-      uses : (z : Name) (d : Decl) (c : Clock) → Sees k q.site z d c → UsedIn (in_group q) z
-      uses z d c s g = any_here (λ q. in_group q && seen_here q z) (parts k.node) q at (and_from (in_group q) (seen_here q z) g (is_seen q z d c s))
+      read_is : (z : Name) (b : Bool) → (b ≡ true) ⊎ (k.clock z ≡ []) → k.clock z ≡ clock old (if b then Of z else Base)
+      read_is z true o = refl
+      read_is z false o = ⊎_elim (λ e. absurd (false≢true e)) (λ e. e) o
+
+      uses : (z : Name) (d : Decl) (c : Clock) → Sees k q.site z d c → UsedAt q z
+      uses z d c s g =
+          and_from (seen_there z) (same_clock (k.clock z) (clock old (read_clock (own q) z)))
+          (any_here (λ q. in_group q && seen_here q z) (parts k.node) q at (and_from (in_group q) (seen_here q z) g (is_seen q z d c s)))
+          (ap (same_clock (k.clock z)) (sym (read_is z (is_in z (own q)) s.outer)) ∙ same_clock_self (k.clock z))
 
   -- ---- all conditions
 
@@ -320,33 +317,37 @@ module _ (k : Within) (h : Timed k) (x : Name) (x_is : x ≡ peak_of k.node x) w
       (numbered_changed 0 (parts k.node) (λ q c. c) (λ m low. refl) (meets_right old ends _ h.meets))
 
   not_longer : (b : Bool) (c : Clock) → length (change b c) ≤ length c
-  not_longer true c = filter_short (λ s. used s.name) c
+  not_longer true c = kept_short used [] c
   not_longer false c = omega arith
 
   not_shorter : (d : Decl) → Contains (variables k.node) d → length (k.clock d.name) ≤ length (new_clock d.name)
   not_shorter d at =
       sum_same (λ (d : Decl). length (new_clock d.name)) (λ (d : Decl). length (k.clock d.name)) (λ d. not_longer (is_in d.name group_names) (k.clock d.name)) (variables k.node) (h.least new_clock (new_numbers, new_meets)) d at
 
-  step_used : (y z : Name) → is_in y group_names ≡ true → is_in z (map (λ s. s.name) (k.clock y)) ≡ true → used z ≡ true
-  step_used y z among e = ⊎_elim by_length (λ base. absurd (false≢true (ap (λ (c : Clock). is_in z (map (λ s. s.name) c)) (sym base) ∙ e))) (h.declared y)
+  steps_used : (y : Name) → is_in y group_names ≡ true → AllUsed used [] (k.clock y)
+  steps_used y among = ⊎_elim by_length (λ base. subst (λ (c : Clock). AllUsed used [] c) (sym base) tt) (h.declared y)
     where
-      by_length : is_in y (names (variables k.node)) ≡ true → used z ≡ true
+      by_length : is_in y (names (variables k.node)) ≡ true → AllUsed used [] (k.clock y)
       by_length declared =
           let (d, at, is) = mapped (λ (d : Decl). d.name) (variables k.node) y (contains_is_in y (names (variables k.node)) declared) in
           let long = subst (λ (v : Name). length (k.clock v) ≤ length (new_clock v)) is (not_shorter d at) in
-          let kept = subst (λ (b : Bool). length (k.clock y) ≤ length (change b (k.clock y))) among long in
-          let (s, same_name, passes) = none_dropped (λ (s : ClockStep). used s.name) (k.clock y) kept z e in
-          ap used same_name ∙ passes
+          none_dropped used [] (k.clock y) (subst (λ (b : Bool). length (k.clock y) ≤ length (change b (k.clock y))) among long)
 
-  seen_beside : (q : Placed) → Contains (parts k.node) q → in_group q ≡ true → (y z : Name) → is_in y (own q) ≡ true → is_in z (map (λ s. s.name) (k.clock y)) ≡ true → IsSeenBeside k q.site z
-  seen_beside q at here y z own_y step =
-      let (p, p_at, p_is) = any_there (λ q. in_group q && seen_here q z) (parts k.node) (step_used y z (group_member q at here y own_y) step) in
+  step_beside : (q : Placed) → in_group q ≡ true → (before : Clock) (z : Name) → used before z ≡ true → IsSeenBeside k q.site z before
+  step_beside q here before z e =
+      let (somewhere, same_there) = and_parts (seen_there z) (same_clock (k.clock z) before) e in
+      let (p, p_at, p_is) = any_there (λ q. in_group q && seen_here q z) (parts k.node) somewhere in
       let (there, seen_p) = and_parts (in_group p) (seen_here p z) p_is in
-      let (d, c, sees) = seen_again p z seen_p in
-      record { at = p; of_node = p_at; shared = x; here = here; there = there; decl = d; clock = c; sees = sees }
+      let (d, sees) = seen_again p z before seen_p (same_clock_is (k.clock z) before same_there) in
+      record { at = p; of_node = p_at; shared = x; here = here; there = there; decl = d; sees = sees }
+
+  steps_beside : (q : Placed) → in_group q ≡ true → (before c : Clock) → AllUsed used before c → AreSeenBeside k q.site before c
+  steps_beside q here before [] u = tt
+  steps_beside q here before (s ∷ c) u = (step_beside q here before s.name u.0, steps_beside q here (before ++ s ∷ []) c u.1)
 
 pub steps_seen : (k : Within) → Timed k → AreStepsSeen k
-steps_seen k h q y z at own_y step =
+steps_seen k h q y at own_y =
     let x = peak (own_names k.node q.site) in
     let x_in : is_in x (own_names k.node q.site) ≡ true = peak_in (own_names k.node q.site) y own_y in
-    seen_beside k h x (parts_peaked k.node h.differ q at x x_in) q at x_in y z own_y step
+    let x_is = parts_peaked k.node h.differ q at x x_in in
+    steps_beside k h x x_is q x_in [] (k.clock y) (steps_used k h x x_is y (group_member k h x x_is q at x_in y own_y))

@@ -137,10 +137,10 @@ seen_more node locals site =
     ∙ ap (λ t. t ++ node.inputs) (append_assoc locals (locals_around site ++ node.block.locals) node.outputs)
     ∙ append_assoc locals ((locals_around site ++ node.block.locals) ++ node.outputs) node.inputs
 
-abbrev rest_of : Surroundings → tree.Block → List Placed
+abbrev pub rest_of : Surroundings → tree.Block → List Placed
 rest_of site block = flat_map (parts_of site) block.body
 
-block_declares : (site : Surroundings) (block : tree.Block) → declared_by (block_parts site block) ≡ names block.locals ++ declared_by (rest_of site block)
+pub block_declares : (site : Surroundings) (block : tree.Block) → declared_by (block_parts site block) ≡ names block.locals ++ declared_by (rest_of site block)
 block_declares site block = names_append block.locals (flat_map (λ q. declared_in q.part) (rest_of site block))
 
 module _ (node : Node) (s : Scope) (is : IsApart node s) (site : Surroundings) (block : tree.Block) (within : IsPartOf (block_parts site block) (inner s)) where
@@ -177,7 +177,7 @@ body_part s e p block every h view =
     in_equation s e _ h (subst (λ qs. IsPartOf (block_parts (site_of (In_body s every block)) block) qs) (sym (parts_are (site_of s) e (Equation-F.Reset p block every) view))
     (part_after _ _ _ (record { earlier = []; later = []; is = append-nil (block_parts (site_of (In_body s every block)) block) })))
 
-abbrev state_site : Scope → List State → tree.Block → Surroundings
+abbrev pub state_site : Scope → List State → tree.Block → Surroundings
 state_site s states block = State_of (strong_of_all states) block.locals ∷ site_of s
 
 state_part : (s : Scope) (e : Equation) (p : Place) (states : List State) (j : ℕ) (q : State) →

@@ -30,22 +30,24 @@ AcceptedHasOutputs = (c : ClockedProgram) (k : ℕ) (node : Node) (marked : Mark
     RowsFit c.program.types node.inputs rows →
     (outs : List (List ℕ)) × Outputs (of_program c.program (clock_in c.clocks) marked replies) (Written k node) rows outs × RowsFit c.program.types node.outputs outs
 
--- where the clock of each variable is reached, each site is sent calls whose arguments are values of the called node's inputs
-abbrev pub ScopedHasSent : Type 0
-ScopedHasSent = (c : ClockedProgram) (k : ℕ) (node : Node) (marked : Marks) (replies : Replies) (rows : List (List ℕ)) → IsInRange c.program → IsAcceptedProgram c →
-    HasScopedClocks (run_of c k node marked replies rows) →
+-- each site is sent calls whose arguments are values of the called node's inputs
+abbrev pub AcceptedHasSent : Type 0
+AcceptedHasSent = (c : ClockedProgram) (k : ℕ) (node : Node) (marked : Marks) (replies : Replies) (rows : List (List ℕ)) → IsInRange c.program → IsAcceptedProgram c →
     slice_get c.program.nodes k ≡ Some node → RepliesFit c (of_program c.program (clock_in c.clocks) marked replies) (Written k node) replies →
     RowsFit c.program.types node.inputs rows →
     (sites : List Site) (site : Site) → Sites (of_program c.program (clock_in c.clocks) marked replies) (Written k node) sites → Contains sites site →
     (calls : List (Bool × List ℕ)) × Sent (of_program c.program (clock_in c.clocks) marked replies) rows site calls × RowsFit c.program.types (input_decls site.text) (map (λ x. x.1) calls)
 
 -- and on what a site is sent its node alone gives what the call's body gives, values of the outputs' types
-abbrev pub ScopedCallIsAlone : Type 0
-ScopedCallIsAlone = (c : ClockedProgram) (k : ℕ) (node : Node) (marked : Marks) (replies : Replies) (rows : List (List ℕ)) → IsInRange c.program → IsAcceptedProgram c →
-    HasScopedClocks (run_of c k node marked replies rows) →
+abbrev pub AcceptedCallIsAlone : Type 0
+AcceptedCallIsAlone = (c : ClockedProgram) (k : ℕ) (node : Node) (marked : Marks) (replies : Replies) (rows : List (List ℕ)) → IsInRange c.program → IsAcceptedProgram c →
     slice_get c.program.nodes k ≡ Some node → RepliesFit c (of_program c.program (clock_in c.clocks) marked replies) (Written k node) replies →
     RowsFit c.program.types node.inputs rows →
     (sites : List Site) (site : Site) (calls : List (Bool × List ℕ)) → Sites (of_program c.program (clock_in c.clocks) marked replies) (Written k node) sites → Contains sites site →
     Sent (of_program c.program (clock_in c.clocks) marked replies) rows site calls →
     (outs : List (List ℕ)) × BodyGives (of_program c.program (clock_in c.clocks) marked replies) rows site 0 (length rows) outs
     × GivenOutputs (of_program c.program (clock_in c.clocks) marked replies) site calls outs × RowsFit c.program.types (output_decls site.text) outs
+
+-- each step of the clock of what is seen names a variable that is seen in the same block, up to bodies of resets, on the clock of the steps before it
+abbrev pub ClocksAreReached : Type 0
+ClocksAreReached = (r : Run) → HasScopedClocks r

@@ -14,8 +14,6 @@ use Rattle.hept_ast.specs.declared.tree.Node.{Node}
 use Rattle.hept_ast.specs.declared.tree.Program.{Program}
 use Rattle.hept_ast.specs.TypedValues.{RowsFit}
 use Rattle.accepted_meaning.specs.Ranges.{IsInRange}
-use Rattle.accepted_meaning.specs.Asked.{HasScopedClocks}
-use Rattle.accepted_meaning.specs.Laws.{run_of}
 
 -- no two calls of a node's text have one place
 abbrev pub HasPlacesOnce : Program → Type 0
@@ -29,7 +27,6 @@ without_replies c marked = of_program c.program (clock_in c.clocks) marked no_re
 pub record IsOwnReplied (c : ClockedProgram) (k : ℕ) (node : Node) (marked : Marks) (rows : List (List ℕ)) (sites : List Site) (lists : List (List (List ℕ))) : Type 0 where
   pub in_range : IsInRange c.program
   pub accepted : IsAcceptedProgram c
-  pub scoped : HasScopedClocks (run_of c k node marked no_replies rows)
   pub places : HasPlacesOnce c.program
   pub chosen : slice_get c.program.nodes k ≡ Some node
   pub rows_fit : RowsFit c.program.types node.inputs rows

@@ -1,5 +1,5 @@
 -- What the parts of a node of an accepted program are like.
-use Rattle.std.specs.Prelude.{◌≡◌, ◌⊎◌, ℕ, ⊤, true, false, List, [], ◌∷◌, map, Contains, Option, Some, None, is_some, slice_get}
+use Rattle.std.specs.Prelude.{◌≡◌, ◌⊎◌, ℕ, ⊤, true, false, List, [], ◌∷◌, ◌++◌, map, Contains, Option, Some, None, is_some, slice_get}
 use Rattle.std.specs.List.{flat_map, list_any}
 use Rattle.hept_ast.specs.Texts.{Name, is_in, names}
 use Rattle.hept_ast.specs.Scopes.{Clock}
@@ -89,20 +89,24 @@ NamesDiffer (x ∷ xs) = (is_in x xs ≡ false) × NamesDiffer xs
 abbrev pub SoundInterface : Within → Decl → Type 0
 SoundInterface k d = (k.clock d.name ≡ []) × (k.grade d.name ≡ false) × SoundInit k d d.init
 
--- a variable that is seen at a part which has a variable of its own in common with a site, so that both stand in one block up to reset bodies
-pub record IsSeenBeside (k : Within) (site : Surroundings) (z : Name) : Type 0 where
+-- a variable that is seen, on a clock, at a part which has a variable of its own in common with a site, so that both stand in one block up to reset bodies
+pub record IsSeenBeside (k : Within) (site : Surroundings) (z : Name) (c : Clock) : Type 0 where
   pub at : Placed
   pub of_node : Contains (parts k.node) at
   pub shared : Name
   pub here : is_in shared (own_names k.node site) ≡ true
   pub there : is_in shared (own_names k.node at.site) ≡ true
   pub decl : Decl
-  pub clock : Clock
-  pub sees : Sees k at.site z decl clock
+  pub sees : Sees k at.site z decl c
 
--- each step of the clock of a variable that a site has of its own names one that is seen beside it
+-- each step of a clock names a variable that is seen beside a site, on the clock of the steps before
+abbrev pub AreSeenBeside : Within → Surroundings → (before : Clock) → Clock → Type 0
+AreSeenBeside k site before [] = ⊤
+AreSeenBeside k site before (step ∷ steps) = IsSeenBeside k site step.name before × AreSeenBeside k site (before ++ step ∷ []) steps
+
+-- so does each step of the clock of a variable that a site has of its own
 abbrev pub AreStepsSeen : Within → Type 0
-AreStepsSeen k = (q : Placed) (y z : Name) → Contains (parts k.node) q → is_in y (own_names k.node q.site) ≡ true → is_in z (map (λ s. s.name) (k.clock y)) ≡ true → IsSeenBeside k q.site z
+AreStepsSeen k = (q : Placed) (y : Name) → Contains (parts k.node) q → is_in y (own_names k.node q.site) ≡ true → AreSeenBeside k q.site [] (k.clock y)
 
 pub record SoundNode (k : Within) : Type 0 where
   pub once : NamesDiffer (names (variables k.node))
