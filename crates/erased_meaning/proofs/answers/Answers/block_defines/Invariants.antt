@@ -1,0 +1,10 @@
+use Rattle.std.proofs.Common.{◌≡◌, Bool, drop}
+use Rattle.hept_ast.specs.Scopes.{Scope, block_of}
+use Rattle.erased_meaning.specs.Things.{In}
+use Rattle.erased_meaning.specs.Tables.{TestsDefined, thing_in}
+use Rattle.erased_meaning.proofs.answers.Answers.block_defines.Given as goal
+
+-- what a test of the equations that are left shows, a test of all shows
+abbrev pub invariant-loop-equation : goal.invariant-loop-equation
+invariant-loop-equation l = (scope : Scope) (b : Bool) → thing_in l.self l.scope ≡ In scope →
+    TestsDefined l.self l.name (drop l.equation (block_of scope).body) b → TestsDefined l.self l.name (block_of scope).body b

@@ -1,0 +1,11 @@
+pub mod Found
+pub mod Parts
+pub mod Things
+pub mod Asking
+pub mod Tables
+pub mod CallRules
+pub mod HomePaths
+pub mod Inputs
+pub mod Equations
+pub mod ErasedRows
+pub mod Pending
