@@ -1,6 +1,9 @@
 ghost use Rattle.std.specs.Prelude.{◌≤◌};
 
+use crate::checks::read_checked;
 use crate::{RunEnd, run};
+use erased_meaning::value_rows;
+use hept_ast::{NodeId, Rows};
 use hept_io::{MemorySink, MemorySource, MemoryStore, OpenGate};
 use std::alloc::{AllocError, Global};
 use std::collections::BTreeMap;
@@ -430,4 +433,85 @@ fn long_line(rt: HostRuntime) -> Result<(), Fail> {
     )?;
     expect_outcome(&rt, outcome, 4, b"0\n", b"hepasync: line 2: too long\n");
     Ok(())
+}
+
+/// The names of values, for each type that has names.
+const NAMES: [[&str; 2]; 2] = [["false", "true"], ["Coarse", "Fine"]];
+
+// The value that a word stands for.
+fn value_of<R: Abort>(rt: &R, word: &str) -> u32 {
+    for names in NAMES {
+        for (value, name) in names.iter().enumerate() {
+            if *name == word {
+                return value as u32;
+            }
+        }
+    }
+    match word.parse::<i32>() {
+        Ok(number) => number.cast_unsigned(),
+        Err(_) => panic!(rt; "no value: {word}"),
+    }
+}
+
+// The rows of values that the lines of a text stand for.
+fn values_of<R: Abort>(rt: &R, alloc: Global, text: &str) -> Result<Rows, Fail> {
+    let mut rows = Rows::new(alloc);
+    for line in text.lines() {
+        let mut row = Vec::new(alloc);
+        for word in line.split_whitespace() {
+            row.push(value_of(rt, word))?;
+        }
+        if rows.push(alloc, row.as_slice()).is_err() {
+            panic!(rt; "no memory");
+        }
+    }
+    Ok(rows)
+}
+
+// What a run writes is what the slow evaluator gives.
+fn expect_values<R: Abort>(
+    rt: &R,
+    alloc: Global,
+    text: &[u8],
+    trace: &str,
+    count: usize,
+) -> Result<(), Fail> {
+    assert!(rt; text.len() < 1_000);
+    let run = outcome_of(
+        alloc,
+        &["a.ept"],
+        Some(text),
+        trace.as_bytes(),
+        65_536,
+        NONE,
+    )?;
+    assert_eq!(rt; run.status, 0);
+    let Ok(written) = str::from_utf8(run.output.as_slice()) else {
+        panic!(rt; "no text");
+    };
+    let written = values_of(rt, alloc, written)?;
+    let Ok(accepted) = read_checked(alloc, text) else {
+        panic!(rt; "refused");
+    };
+    assert!(rt; accepted.program().nodes.len() > 0);
+    let inputs = values_of(rt, alloc, trace)?;
+    let Ok(outputs) = value_rows(alloc, &accepted, NodeId(0), &inputs) else {
+        panic!(rt; "no values");
+    };
+    assert_eq!(rt; outputs.len(), count);
+    assert_eq!(rt; written.len(), count);
+    for t in 0..count {
+        assert!(rt; outputs.get(t) == written.get(t), "row {t}");
+    }
+    Ok(())
+}
+
+#[test]
+fn runs_write_what_the_slow_evaluator_gives(rt: HostRuntime) -> Result<(), Fail> {
+    expect_values(&rt, rt.alloc(), DELAYED_SUM, "1\n2\n3\n", 3)?;
+    let text = b"node main(x:int) returns (q,r,n:int) let q = x / 2; r = x mod 2; n = x / -1 tel";
+    expect_values(&rt, rt.alloc(), text, "-7\n-2147483648\n", 2)?;
+    let text =
+        b"type mode = Coarse | Fine\nnode main(m:mode) returns (k:mode; b:bool) let k = if m = Coarse then Fine else Coarse; b = m = Fine tel";
+    expect_values(&rt, rt.alloc(), text, "Coarse\nFine\n", 2)
 }
