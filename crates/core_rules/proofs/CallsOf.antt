@@ -38,7 +38,7 @@ among x (y ∷ ys) e = go (same x y) refl e (among x ys)
     go true s e later = subst (λ (z : Name). IsAmong x (z ∷ ys)) (same_is x y s) at_head
     go false s e later = in_tail (later e)
 
-in_second : (x : Name) (xs ys : List Name) → is_in x ys ≡ true → is_in x (xs ++ ys) ≡ true
+pub in_second : (x : Name) (xs ys : List Name) → is_in x ys ≡ true → is_in x (xs ++ ys) ≡ true
 in_second x [] ys e = e
 in_second x (z ∷ zs) ys e = go (same x z) (in_second x zs ys e)
   where
@@ -46,7 +46,7 @@ in_second x (z ∷ zs) ys e = go (same x z) (in_second x zs ys e)
     go true h = refl
     go false h = h
 
-in_first : (x : Name) (xs ys : List Name) → is_in x xs ≡ true → is_in x (xs ++ ys) ≡ true
+pub in_first : (x : Name) (xs ys : List Name) → is_in x xs ≡ true → is_in x (xs ++ ys) ≡ true
 in_first x [] ys e = absurd (false≢true e)
 in_first x (z ∷ zs) ys e = go (same x z) e (in_first x zs ys)
   where
@@ -54,7 +54,7 @@ in_first x (z ∷ zs) ys e = go (same x z) e (in_first x zs ys)
     go true e later = refl
     go false e later = later e
 
-not_both : (x : Name) (xs ys : List Name) → AllDiffer (xs ++ ys) → is_in x ys ≡ true → is_in x xs ≡ false
+pub not_both : (x : Name) (xs ys : List Name) → AllDiffer (xs ++ ys) → is_in x ys ≡ true → is_in x xs ≡ false
 not_both x [] ys h e = refl
 not_both x (z ∷ zs) ys h e = go (same x z) refl (not_both x zs ys h.1 e)
   where
@@ -62,7 +62,7 @@ not_both x (z ∷ zs) ys h e = go (same x z) refl (not_both x zs ys h.1 e)
     go true s r = absurd (h.0 (subst (λ (v : Name). IsAmong v (zs ++ ys)) (same_is x z s) (among x (zs ++ ys) (in_second x zs ys e))))
     go false s r = ap (λ b. b || is_in x zs) s ∙ r
 
-rest_differs : (xs ys : List Name) → AllDiffer (xs ++ ys) → AllDiffer ys
+pub rest_differs : (xs ys : List Name) → AllDiffer (xs ++ ys) → AllDiffer ys
 rest_differs [] ys h = h
 rest_differs (x ∷ xs) ys h = rest_differs xs ys h.1
 

@@ -26,7 +26,7 @@ use Rattle.core_rules.proofs.Ends.{same_is, same_self}
 
 -- ---- different names
 
-abbrev all_differ : List Name → Bool
+abbrev pub all_differ : List Name → Bool
 all_differ [] = true
 all_differ (x ∷ xs) = not (is_in x xs) && all_differ xs
 
@@ -43,7 +43,7 @@ differ_by : (b : Bool) (x : Name) (xs : List Name) → is_in x xs ≡ b → (all
 differ_by true x xs s later e = absurd (false≢true e)
 differ_by false x xs s later e = (not_among x xs s, later e)
 
-differ : (xs : List Name) → all_differ xs ≡ true → AllDiffer xs
+pub differ : (xs : List Name) → all_differ xs ≡ true → AllDiffer xs
 differ [] e = tt
 differ (x ∷ xs) e = differ_by (is_in x xs) x xs refl (differ xs) e
 

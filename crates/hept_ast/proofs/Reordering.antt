@@ -12,7 +12,7 @@ use Rattle.hept_ast.specs.Meaning.{Question, Gives, Output, Variable, Last, Defi
 use Rattle.hept_ast.specs.Outputs.{Knows, HaveValues, OutputsFrom, Outputs}
 use Rattle.hept_ast.specs.Settings.{of_core}
 use Rattle.hept_ast.specs.Transfer.{Tracks, unknown, says, reads, asks}
-use Rattle.hept_ast.specs.Reordering.{Reordered, ReorderedNodes, none, next, OrderIsFree}
+use Rattle.hept_ast.specs.Reordering.{Reordered, ReorderedNodes, none, next, SameText, written, lowered, SameScope, top, called, branch, body, state, under, OrderIsFree}
 use Rattle.hept_ast.specs.declared.tree.TypeDec.{TypeDec}
 use Rattle.hept_ast.specs.declared.tree.Init.{Init}
 use Rattle.hept_ast.specs.declared.tree.Decl.{Decl}
@@ -33,20 +33,20 @@ use Rattle.hept_ast.proofs.Transfer.{transfer_tied, if_tracks, go_on_tracks, go_
 
 -- ---- the equation that defines a name is the same in either order
 
-all_cons : {A : Type 0} (P : A → Type 0) (x : A) (xs : List A) → P x → All P xs → All P (x ∷ xs)
+pub all_cons : {A : Type 0} (P : A → Type 0) (x : A) (xs : List A) → P x → All P xs → All P (x ∷ xs)
 all_cons P x xs h hs zero d k = h
 all_cons P x xs h hs (suc n) d k = hs n d (omega arith)
 
-all_head : {A : Type 0} (P : A → Type 0) (x : A) (xs : List A) → All P (x ∷ xs) → P x
+pub all_head : {A : Type 0} (P : A → Type 0) (x : A) (xs : List A) → All P (x ∷ xs) → P x
 all_head P x xs h = h 0 x (omega arith)
 
-all_tail : {A : Type 0} (P : A → Type 0) (x : A) (xs : List A) → All P (x ∷ xs) → All P xs
+pub all_tail : {A : Type 0} (P : A → Type 0) (x : A) (xs : List A) → All P (x ∷ xs) → All P xs
 all_tail P x xs h n d k = h (suc n) d (omega arith)
 
-count_no : {A : Type 0} (p : A → Bool) (x : A) (xs : List A) → p x ≡ false → count_by p (x ∷ xs) ≡ count_by p xs
+pub count_no : {A : Type 0} (p : A → Bool) (x : A) (xs : List A) → p x ≡ false → count_by p (x ∷ xs) ≡ count_by p xs
 count_no p x xs e = sum_by-cons (λ y. cond (p y) 1 0) x xs ∙ ap (λ (b : Bool). cond b 1 0 + count_by p xs) e ∙ zero-add (count_by p xs)
 
-count_yes : {A : Type 0} (p : A → Bool) (x : A) (xs : List A) → p x ≡ true → count_by p (x ∷ xs) ≡ 1 + count_by p xs
+pub count_yes : {A : Type 0} (p : A → Bool) (x : A) (xs : List A) → p x ≡ true → count_by p (x ∷ xs) ≡ 1 + count_by p xs
 count_yes p x xs e = sum_by-cons (λ y. cond (p y) 1 0) x xs ∙ ap (λ (b : Bool). cond b 1 0 + count_by p xs) e
 
 -- what a search comes to, where all elements have a property
@@ -96,7 +96,7 @@ only_one p (x ∷ xs) h = go (p x) refl (only_one p xs)
         (all_map (λ y. p y ≡ true → find p xs ≡ Some y) (λ y. p y ≡ true → find p (x ∷ xs) ≡ Some y) xs (λ y f k. rw e (f k)) (rest few))
 
 -- a search for what one at most passes finds the same in any order
-find_permuted : {A : Type 0} (p : A → Bool) (xs ys : List A) → IsPermutation xs ys → count_by p xs ≤ 1 → find p ys ≡ find p xs
+pub find_permuted : {A : Type 0} (p : A → Bool) (xs ys : List A) → IsPermutation xs ys → count_by p xs ≤ 1 → find p ys ≡ find p xs
 find_permuted p xs ys moved h =
     go (found p (λ x. p x ≡ true → find p xs ≡ Some x) ys (All-permutation (λ x. p x ≡ true → find p xs ≡ Some x) xs ys moved (only_one p xs h)))
     (found p (λ x. Unit {0}) xs (λ n d k. tt))
@@ -112,20 +112,7 @@ find_permuted p xs ys moved h =
 
 -- ---- what ties two questions
 
-data SameText : Text → Text → Type 0 where
-  written : {n : ℕ} {node : Node} → SameText (Written n node) (Written n node)
-  lowered : {node other : CoreNode} → Reordered node other → SameText (Lowered node) (Lowered other)
-
-data SameScope : Scope → Scope → Type 0 where
-  top : {text other : Text} → SameText text other → SameScope (Top text) (Top other)
-  called : {s r : Scope} {clock : Clock} {place : ℕ} {args : List Expr} {text other : Text} →
-      SameScope s r → SameText text other → SameScope (Called s clock place args text) (Called r clock place args other)
-  branch : {s r : Scope} {on : Expr} {b : Branch} → SameScope s r → SameScope (In_branch s on b) (In_branch r on b)
-  body : {s r : Scope} {every : Expr} {block : Block} → SameScope s r → SameScope (In_body s every block) (In_body r every block)
-  state : {s r : Scope} {states : List State} {k : ℕ} → SameScope s r → SameScope (In_state s states k) (In_state r states k)
-  under : {s r : Scope} {resets : List Name} → SameScope s r → SameScope (Under s resets) (Under r resets)
-
-data Same : Question → Question → Type 0 where
+pub data Same : Question → Question → Type 0 where
   gives : {e : Expr} {clock : Clock} {s r : Scope} {t : ℕ} → SameScope s r → Same (Gives e clock s t) (Gives e clock r t)
   output : {e : Expr} {j : ℕ} {clock : Clock} {s r : Scope} {t : ℕ} → SameScope s r → Same (Output e j clock s t) (Output e j clock r t)
   variable : {x : Name} {s r : Scope} {t : ℕ} → SameScope s r → Same (Variable x s t) (Variable x r t)
@@ -140,7 +127,7 @@ data Same : Question → Question → Type 0 where
 
 -- ---- what tied texts and scopes share
 
-equation_same : (node other : CoreNode) → Reordered node other → (x : Name) → equation_of other x ≡ equation_of node x
+pub equation_same : (node other : CoreNode) → Reordered node other → (x : Name) → equation_of other x ≡ equation_of node x
 equation_same node other h x = find_permuted (λ e. is_in x e.left) node.equations other.equations h.equations (h.once x)
 
 inputs_same : (text other : Text) → SameText text other → inputs_of other ≡ inputs_of text
@@ -159,7 +146,7 @@ text_block_same : (text other : Text) → SameText text other → text_block oth
 text_block_same _ _ written = refl
 text_block_same _ _ (lowered h) = refl
 
-text_same : (s r : Scope) → SameScope s r → SameText (text_of s) (text_of r)
+pub text_same : (s r : Scope) → SameScope s r → SameText (text_of s) (text_of r)
 text_same _ _ (top h) = h
 text_same _ _ (called h k) = k
 text_same _ _ (branch h) = text_same _ _ h
@@ -167,7 +154,7 @@ text_same _ _ (body h) = text_same _ _ h
 text_same _ _ (state h) = text_same _ _ h
 text_same _ _ (under h) = text_same _ _ h
 
-block_same : (s r : Scope) → SameScope s r → block_of r ≡ block_of s
+pub block_same : (s r : Scope) → SameScope s r → block_of r ≡ block_of s
 block_same _ _ (top h) = text_block_same _ _ h
 block_same _ _ (called h k) = text_block_same _ _ k
 block_same _ _ (branch h) = refl
@@ -183,7 +170,7 @@ declared_same _ _ (body h) = refl
 declared_same _ _ (state h) = refl
 declared_same _ _ (under h) = refl
 
-calls_same : (s r : Scope) → SameScope s r → calls_around r ≡ calls_around s
+pub calls_same : (s r : Scope) → SameScope s r → calls_around r ≡ calls_around s
 calls_same _ _ (top h) = refl
 calls_same _ _ (called {place = p} h k) = ap (λ (ps : List ℕ). ps ++ p ∷ []) (calls_same _ _ h)
 calls_same _ _ (branch h) = calls_same _ _ h
@@ -205,7 +192,7 @@ home_same x _ _ (under h) = home_same x _ _ h
 
 -- ---- settings whose nodes are tied
 
-data SameOption : Option Text → Option Text → Type 0 where
+pub data SameOption : Option Text → Option Text → Type 0 where
   neither : SameOption None None
   both : {text other : Text} → SameText text other → SameOption (Some text) (Some other)
 
@@ -223,7 +210,7 @@ module _ (w : Setting) (node : Name → Option Text) (same_node : (x : Name) →
   either_clock : (b c : Bool) (p q r u : Clock) → b ≡ c → p ≡ q → r ≡ u → (if b then p else r) ≡ (if c then q else u)
   either_clock b c p q r u e f g = rw e (rw f (rw g refl))
 
-  seen_same : (x : Name) (s r : Scope) → SameScope s r → clock_seen v x r ≡ clock_seen w x s
+  pub seen_same : (x : Name) (s r : Scope) → SameScope s r → clock_seen v x r ≡ clock_seen w x s
   seen_same x _ _ (top {text = t} {other = u} h) = either_clock _ _ _ _ [] [] (ap (λ (ds : List Decl). is_in x (names ds)) (decls_same t u h)) (clock_of_text t u h x) refl
   seen_same x _ _ (called {text = t} {other = u} h k) = either_clock _ _ _ _ [] [] (ap (λ (ds : List Decl). is_in x (names ds)) (decls_same t u k)) (clock_of_text t u k x) refl
   seen_same x _ _ (branch {s = s} {r = r} h) = either_clock _ _ _ _ [] [] refl (clock_same s r h x) refl
@@ -268,11 +255,11 @@ module _ (w : Setting) (node : Name → Option Text) (same_node : (x : Name) →
 
   -- ---- calls
 
-  data SameCall : Option (List Expr × Text) → Option (List Expr × Text) → Type 0 where
+  pub data SameCall : Option (List Expr × Text) → Option (List Expr × Text) → Type 0 where
     no_call : SameCall None None
     a_call : {args : List Expr} {text other : Text} → SameText text other → SameCall (Some (args, text)) (Some (args, other))
 
-  call_text : (args : List Expr) (o p : Option Text) → SameOption o p → SameCall (option_map (λ text. (args, text)) o) (option_map (λ text. (args, text)) p)
+  pub call_text : (args : List Expr) (o p : Option Text) → SameOption o p → SameCall (option_map (λ text. (args, text)) o) (option_map (λ text. (args, text)) p)
   call_text args _ _ neither = no_call
   call_text args _ _ (both h) = a_call h
 
@@ -437,7 +424,7 @@ module _ (w : Setting) (node : Name → Option Text) (same_node : (x : Name) →
       asks (active_state h) (λ a. go_on_state_tracks a (λ k m. left_tracks (In_state s states k) (In_state r states k) states t k (state h) (slice_get states k)))
 
   -- what is known of a question is known of each that is tied to it
-  same_knows : (rows : List (List ℕ)) (q p : Question) (a : Answer) → Same q p → Knows w rows q a → Knows v rows p a
+  pub same_knows : (rows : List (List ℕ)) (q p : Question) (a : Answer) → Same q p → Knows w rows q a → Knows v rows p a
   same_knows rows q p a h k = transfer_tied w v rows Same same_tracks q p a h k
 
   same_values : (rows : List (List ℕ)) (text other : Text) (t : ℕ) → SameText text other → (xs : List Name) (vs : List ℕ) →
@@ -459,7 +446,7 @@ module _ (w : Setting) (node : Name → Option Text) (same_node : (x : Name) →
 
 -- ---- cores
 
-lowered_same : (nodes others : List CoreNode) → ReorderedNodes nodes others → (x : Name) →
+pub lowered_same : (nodes others : List CoreNode) → ReorderedNodes nodes others → (x : Name) →
     SameOption (option_map Lowered (find (λ n. same x n.name) nodes)) (option_map Lowered (find (λ n. same x n.name) others))
 lowered_same _ _ none x = neither
 lowered_same _ _ (next {node = n} {other = m} {nodes = ns} {others = ms} h k) x =
