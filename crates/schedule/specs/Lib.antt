@@ -1,0 +1,5 @@
+pub mod Normal
+pub mod Order
+pub mod Kept
+pub mod Example
+pub mod Normalised
