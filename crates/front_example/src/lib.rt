@@ -4,6 +4,12 @@
 #[cfg(test)]
 mod acceptance;
 #[cfg(test)]
+mod choices;
+#[cfg(test)]
+mod clocks;
+#[cfg(test)]
 mod erasure;
+#[cfg(test)]
+mod limits;
 #[cfg(test)]
 mod tests;

@@ -10,6 +10,3 @@ mod top;
 mod words;
 
 pub use top::{RunEnd, run};
-
-#[cfg(test)]
-mod tests;

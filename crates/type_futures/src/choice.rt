@@ -31,7 +31,7 @@ pub fn choose(typed: &Typed, name: Option<&str>) -> Result<NodeId, TopFault>
     }
 }
 
-pub(crate) fn named(nodes: &[Node], name: &[u8]) -> Result<NodeId, TopFault>
+fn named(nodes: &[Node], name: &[u8]) -> Result<NodeId, TopFault>
     requires { length nodes.now < 2 ^ 32 }
     ensures { MatchResult result (λ id. IsChosen nodes.now (Some name.now) id.0) (IsTopFault nodes.now (Some name.now)) }
 {
@@ -53,7 +53,7 @@ fn is_named(node: &Node, name: &[u8]) -> bool
     node.name.bytes() == name
 }
 
-pub(crate) fn last(nodes: &[Node]) -> Result<NodeId, TopFault>
+fn last(nodes: &[Node]) -> Result<NodeId, TopFault>
     requires { length nodes.now < 2 ^ 32 }
     ensures { MatchResult result (λ id. IsChosen nodes.now None id.0) (IsTopFault nodes.now None) }
 {

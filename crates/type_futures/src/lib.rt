@@ -28,8 +28,6 @@ mod scene;
 mod sets;
 mod tagged;
 mod tags;
-#[cfg(test)]
-mod tests;
 mod types;
 mod typing;
 mod variables;

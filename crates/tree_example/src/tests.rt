@@ -1,4 +1,4 @@
-use crate::{
+use hept_ast::{
     Accepted, BinaryOp, Block, ClockPath, ClockStep, Clocked, Clocks, Const, Decl, Expr, Form,
     Init, Memory, Name, Node, NodeId, Place, Plain, Program, Rows, Tag, Ty, Typed, UnaryOp, binary,
     erase, erase_expr, meaning_laws, static_laws, transfer_laws, unary,

@@ -1,14 +1,17 @@
 ghost use Rattle.std.specs.Prelude.{◌≤◌};
 
-use crate::checks::read_checked;
-use crate::{RunEnd, run};
+use causality::accept;
+use clock_calculus::check_clocks;
+use ept_reader::read_program;
 use erased_meaning::value_rows;
-use hept_ast::{NodeId, Rows};
+use hepasync_top::{RunEnd, run};
+use hept_ast::{Accepted, NodeId, Rows};
 use hept_io::{MemorySink, MemorySource, MemoryStore, OpenGate};
 use std::alloc::{AllocError, Global};
 use std::collections::BTreeMap;
 use std::process::Abort;
 use std::test::Fail;
+use type_futures::check_types;
 
 const DELAYED_SUM: &[u8] = b"node main(x:int) returns (y:int) let y = 0 fby (y + x) tel\n";
 
@@ -468,6 +471,27 @@ fn values_of<R: Abort>(rt: &R, alloc: Global, text: &str) -> Result<Rows, Fail> 
     Ok(rows)
 }
 
+/// What a text spells, accepted.
+fn accepted<R: Abort>(rt: &R, alloc: Global, text: &[u8]) -> Accepted {
+    assert!(rt; text.len() < 1_000);
+    let Ok(program) = read_program(alloc, text) else {
+        panic!(rt; "not read");
+    };
+    let typed = match check_types(alloc, program) {
+        Ok(typed) => typed,
+        Err(fault) => panic!(rt; "{fault}"),
+    };
+    let clocked = match check_clocks(alloc, typed) {
+        Ok(clocked) => clocked,
+        Err(fault) => panic!(rt; "{fault}"),
+    };
+    assert!(rt; clocked.program().nodes.len() < 100);
+    match accept(alloc, clocked) {
+        Ok(accepted) => accepted,
+        Err(fault) => panic!(rt; "{fault}"),
+    }
+}
+
 // What a run writes is what the slow evaluator gives.
 fn expect_values<R: Abort>(
     rt: &R,
@@ -476,7 +500,6 @@ fn expect_values<R: Abort>(
     trace: &str,
     count: usize,
 ) -> Result<(), Fail> {
-    assert!(rt; text.len() < 1_000);
     let run = outcome_of(
         alloc,
         &["a.ept"],
@@ -490,9 +513,7 @@ fn expect_values<R: Abort>(
         panic!(rt; "no text");
     };
     let written = values_of(rt, alloc, written)?;
-    let Ok(accepted) = read_checked(alloc, text) else {
-        panic!(rt; "refused");
-    };
+    let accepted = accepted(rt, alloc, text);
     assert!(rt; accepted.program().nodes.len() > 0);
     let inputs = values_of(rt, alloc, trace)?;
     let Ok(outputs) = value_rows(alloc, &accepted, NodeId(0), &inputs) else {

@@ -1,9 +1,7 @@
 ghost use Rattle.std.specs.Prelude.{◌<◌, ◌^◌, length};
 
-use crate::cutter::{CutFault, cut};
-use crate::reader::{ReadFault, read_program};
 use crate::show::{Page, show};
-use crate::token::Kind;
+use ept_reader::{CutFault, Kind, ReadFault, cut, read_program};
 use hept_ast::Place;
 use std::alloc::{AllocError, Global};
 use std::process::Abort;

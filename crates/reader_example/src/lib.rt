@@ -1,0 +1,7 @@
+//! Texts that are cut and read, with what they spell written out.
+#![tactic(auto)]
+
+#[cfg(test)]
+mod show;
+#[cfg(test)]
+mod tests;

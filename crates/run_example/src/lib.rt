@@ -1,0 +1,5 @@
+//! Runs of programs on traces in memory: what they write, how they end, and what they say then.
+#![tactic(auto)]
+
+#[cfg(test)]
+mod tests;
