@@ -20,7 +20,7 @@ use Rattle.core_rules.specs.Cores.{CoreReads, as_node, core_clock, core_decls, c
 use Rattle.core_rules.specs.WellFormed.{IsClockedEquation, IsNoLast, IsTypedEquation, IsWellFormedNode, int_decl}
 use Rattle.core_rules.proofs.Ends.{same_is, same_self}
 use Rattle.core_rules.proofs.SumCore.{differ}
-use Rattle.schedule.specs.Normal.{AreNormal, IsNormalRight, is_step, plain}
+use Rattle.core_naming.specs.Normal.{AreNormal, IsNormalRight, is_step, plain}
 use Rattle.schedule.specs.Order.{IsOrdered, IsOrderedNode}
 use Rattle.schedule.specs.Example.{TurnedCanBeOrdered, copy_of, sum_of, turned_core, turned_node}
 

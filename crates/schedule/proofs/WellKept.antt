@@ -21,7 +21,7 @@ use Rattle.hept_ast.specs.Reordering.{Reordered, ReorderedNodes, none, next, Reo
 use Rattle.hept_ast.proofs.Reordering.{all_cons, all_head, all_tail, equation_same}
 use Rattle.core_rules.specs.Cores.{as_equation, as_interface, as_node, core_clock, core_decls, core_judging, lefts_of}
 use Rattle.core_rules.specs.WellFormed.{IsClockedEquation, IsTypedEquation, IsWellFormed, IsWellFormedNode}
-use Rattle.schedule.specs.Normal.{AreNormal, IsNormal, IsNormalRight}
+use Rattle.core_naming.specs.Normal.{AreNormal, IsNormal, IsNormalRight}
 use Rattle.schedule.specs.Order.{AreNodesInOrder, IsOrdered, IsOrderedNode, more_nodes, no_nodes}
 use Rattle.schedule.proofs.Reordered.{nodes_reordered}
 use Rattle.schedule.proofs.Permuted.{differ_permuted, flat_permuted}

@@ -10,7 +10,7 @@ use Rattle.hept_ast.specs.declared.tree.Expr.{Expr}
 use Rattle.hept_ast.specs.declared.tree.Form.TheVariants as form
 use Rattle.core_rules.specs.Cores.{HasNoCoreCycle}
 use Rattle.core_rules.specs.WellFormed.{IsWellFormed, expr, int_decl}
-use Rattle.schedule.specs.Normal.{IsNormal}
+use Rattle.core_naming.specs.Normal.{IsNormal}
 use Rattle.schedule.specs.Order.{IsOrdered}
 
 abbrev pub defined_as : Name → Expr → CoreEquation

@@ -1,5 +1,3 @@
-pub mod Normal
 pub mod Order
 pub mod Kept
 pub mod Example
-pub mod Normalised

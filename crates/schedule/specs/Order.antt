@@ -9,7 +9,7 @@ use Rattle.hept_ast.specs.declared.tree.CoreNode.{CoreNode}
 use Rattle.hept_ast.specs.declared.tree.CoreEquation.{CoreEquation}
 use Rattle.core_rules.specs.Cores.{equation_reads}
 use Rattle.core_rules.specs.WellFormed.{IsWellFormed}
-use Rattle.schedule.specs.Normal.{IsNormal}
+use Rattle.core_naming.specs.Normal.{IsNormal}
 
 -- whether an equation has a name on its left side
 abbrev pub is_left : List CoreEquation → Name → Bool

@@ -5,7 +5,7 @@ ghost use Rattle.core_rules.specs.WellFormed.{IsWellFormed};
 ghost use Rattle.hept_ast.specs.Causal.{HasNoCycle};
 ghost use Rattle.hept_ast.specs.Reordering.{Reordering};
 ghost use Rattle.schedule.specs.Kept.{KeepsMeaning};
-ghost use Rattle.schedule.specs.Normal.{IsNormal};
+ghost use Rattle.core_naming.specs.Normal.{IsNormal};
 ghost use Rattle.schedule.specs.Order.{AreNodesInOrder, IsNodeInOrder, IsOrdered};
 
 use crate::equations::in_order;

@@ -1,6 +1,6 @@
 use Rattle.std.proofs.Common.{sym, subst}
 use Rattle.hept_ast.specs.declared.tree.Core.{Core}
-use Rattle.schedule.specs.Normal.{IsNormal}
+use Rattle.core_naming.specs.Normal.{IsNormal}
 use Rattle.schedule.proofs.tests.a_reader_comes_after_what_it_reads.Goals as goal
 
 pub order-requires-clause-normal : goal.order-requires-clause-normal

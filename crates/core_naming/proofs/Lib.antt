@@ -1,0 +1,17 @@
+pub mod Mentions
+pub mod Matching
+pub mod TiedNodes
+pub mod TiedForms
+pub mod TiedTexts
+pub mod TiedQuestions
+pub mod NewVariable
+pub mod Judged
+pub mod NewNames
+pub mod KeptOutputs
+pub mod KeptSent
+pub mod TiedPieces
+pub mod NamedPieces
+pub mod OrderOfSites
+pub mod NamedSites
+pub mod SitesBack
+pub mod KeptSites
