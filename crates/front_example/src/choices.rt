@@ -56,13 +56,7 @@ fn a_node_is_chosen_by_its_name_and_else_the_last(rt: HostRuntime) -> Result<(),
     chooses(&rt, &nodes, None, 2);
     chooses(&rt, &nodes, Some("f"), 0);
     refuses(&rt, alloc, &nodes, Some("main"), "no node")?;
-    refuses(
-        &rt,
-        alloc,
-        &nodes,
-        Some("g"),
-        "future interface at 67",
-    )?;
+    refuses(&rt, alloc, &nodes, Some("g"), "future interface at 67")?;
     let none = typed(&rt, alloc, b"");
     refuses(&rt, alloc, &none, None, "no node")
 }

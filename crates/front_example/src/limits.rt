@@ -39,7 +39,10 @@ fn input_limit(rt: HostRuntime) -> Result<(), Fail> {
     let text = with_inputs(alloc, 64)?;
     assert_eq!(&rt; said(&rt, alloc, text.as_slice())?.as_str(), "");
     let text = with_inputs(alloc, 65)?;
-    assert_eq!(&rt; said(&rt, alloc, text.as_slice())?.as_str(), "limit at 2154: 65 of 64");
+    assert_eq!(&rt;
+        said(&rt, alloc, text.as_slice())?.as_str(),
+        "limit at 2154: 65 of 64"
+    );
     Ok(())
 }
 
@@ -60,6 +63,9 @@ fn name_limit(rt: HostRuntime) -> Result<(), Fail> {
     let text = with_constructor(alloc, 255)?;
     assert_eq!(&rt; said(&rt, alloc, text.as_slice())?.as_str(), "");
     let text = with_constructor(alloc, 256)?;
-    assert_eq!(&rt; said(&rt, alloc, text.as_slice())?.as_str(), "limit at 1: 256 of 255");
+    assert_eq!(&rt;
+        said(&rt, alloc, text.as_slice())?.as_str(),
+        "limit at 1: 256 of 255"
+    );
     Ok(())
 }

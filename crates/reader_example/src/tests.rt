@@ -180,7 +180,8 @@ fn bounds(rt: HostRuntime) -> Result<(), Fail> {
 }
 
 // Texts, each with the tree that it spells.
-const PRODUCTIONS: &str = "node n() returns (y:int) let y = -3 tel => node @0 n ; y @18 int ; ; define @29 y (-3 @33 )
+const PRODUCTIONS: &str =
+    "node n() returns (y:int) let y = -3 tel => node @0 n ; y @18 int ; ; define @29 y (-3 @33 )
 node n() returns (y:int) let y = - x tel => node @0 n ; y @18 int ; ; define @29 y (- (x @35 ) @33 )
 node n() returns (y:int) let y = - -2 tel => node @0 n ; y @18 int ; ; define @29 y (- (-2 @35 ) @33 )
 node n() returns (y:int) let y = 1 - 2 - 3 tel => node @0 n ; y @18 int ; ; define @29 y (- (- (1 @33 ) (2 @37 ) @35 ) (3 @41 ) @39 )
