@@ -85,7 +85,8 @@ pub fn own_declarations<'a>(alloc: Global, node: &'a Node) -> Result<Vec<&'a Dec
     Ok(seen)
 }
 
-fn push_declared_names<'a>(out: &mut Vec<&'a Name>, decls: &'a [Decl]) -> Result<(), Memory>
+/// Appends the names of some declarations.
+pub fn push_declared_names<'a>(out: &mut Vec<&'a Name>, decls: &'a [Decl]) -> Result<(), Memory>
     ensures { OnOk result (map (λ r. r.now) out.new.items ≡ map (λ r. r.now) out.old.items ++ names decls.now) }
 {
     for decl in decls {
