@@ -85,6 +85,16 @@ pub fn own_declarations<'a>(alloc: Global, node: &'a Node) -> Result<Vec<&'a Dec
     Ok(seen)
 }
 
+/// Appends the names of some declarations.
+pub fn push_declared_names<'a>(out: &mut Vec<&'a Name>, decls: &'a [Decl]) -> Result<(), Memory>
+    ensures { OnOk result (map (λ r. r.now) out.new.items ≡ map (λ r. r.now) out.old.items ++ names decls.now) }
+{
+    for decl in decls {
+        push_name(out, &decl.name)?;
+    }
+    Ok(())
+}
+
 fn push_of_piece<'a>(out: &mut Vec<&'a Decl>, piece: Piece<'a>) -> Result<(), Memory>
     ensures { OnOk result (map (λ r. r.now) out.new.items ≡ map (λ r. r.now) out.old.items ++ declared_in (piece_of piece.entry)) }
 {
