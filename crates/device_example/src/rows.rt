@@ -1,7 +1,6 @@
 ghost use Rattle.std.specs.Prelude.{◌≡◌, ◌<◌, ◌^◌, IfOk, length, codes};
 ghost use Rattle.hept_ast.specs.declared.tree.Ty.TheVariants as ty;
 
-use crate::{RowFault, RowWriter, read_row};
 use hept_ast::{Decl, Memory, Name, Place, Plain, Program, Ty, TypeDec};
 use hept_io::MemorySink;
 use sqlite_items::Items;
@@ -9,6 +8,7 @@ use std::alloc::{AllocError, Global};
 use std::process::Abort;
 use std::test::Fail;
 use step_objects::{Cell, Shape};
+use trace_io::{RowFault, RowWriter, read_row};
 
 fn name(alloc: Global, text: &[u8]) -> Result<Name, AllocError>
     ensures { IfOk result (λ n. n ≡ text.now) }
@@ -122,23 +122,23 @@ fn rows_are_read_and_written(rt: HostRuntime) -> Result<(), Fail> {
 }
 
 #[test]
-fn rows_are_refused(rt: HostRuntime) -> Result<(), Fail> {
+fn rows_with_other_counts(rt: HostRuntime) -> Result<(), Fail> {
     let alloc = rt.alloc();
     refuse(&rt, alloc, b"1 true", RowFault::TooFew { kept: 2 })?;
-    refuse(&rt, alloc, b"1 true Red Red", RowFault::TooMany { at: 11 })?;
-    refuse(&rt, alloc, b"1 1 Red", RowFault::BadValue { at: 2 })?;
-    refuse(&rt, alloc, b"1 true Gree", RowFault::BadValue { at: 7 })?;
-    refuse(
-        &rt,
-        alloc,
-        b"2147483648 true Red",
-        RowFault::BadValue { at: 0 },
-    )?;
-    refuse(
-        &rt,
-        alloc,
-        b"-2147483649 true Red",
-        RowFault::BadValue { at: 0 },
-    )?;
-    refuse(&rt, alloc, b"x true", RowFault::BadValue { at: 0 })
+    refuse(&rt, alloc, b"1 true Red Red", RowFault::TooMany { at: 11 })
+}
+
+#[test]
+fn bad_values(rt: HostRuntime) -> Result<(), Fail> {
+    let alloc = rt.alloc();
+    for (line, at) in [
+        (b"1 1 Red".as_slice(), 2u32),
+        (b"1 true Gree".as_slice(), 7),
+        (b"2147483648 true Red".as_slice(), 0),
+        (b"-2147483649 true Red".as_slice(), 0),
+        (b"x true".as_slice(), 0),
+    ] {
+        refuse(&rt, alloc, line, RowFault::BadValue { at })?;
+    }
+    Ok(())
 }

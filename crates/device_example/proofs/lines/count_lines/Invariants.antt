@@ -1,6 +1,6 @@
 use Rattle.std.proofs.Common.{◌≡◌, ◌≤◌, false, length, ℕ, List}
 use Rattle.hept_io.specs.Lines.{GivesLines, to_come}
-use Rattle.hept_io.proofs.tests.count_lines.Given as goal
+use Rattle.device_example.proofs.lines.count_lines.Given as goal
 
 abbrev pub invariant-loop : goal.invariant-loop
 invariant-loop g l = record {
