@@ -1,0 +1,3 @@
+pub mod Undefined
+mod Reordered
+mod SumCore
