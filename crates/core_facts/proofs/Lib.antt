@@ -1,3 +1,3 @@
 pub mod Undefined
-mod Reordered
+pub mod Reordered
 mod SumCore

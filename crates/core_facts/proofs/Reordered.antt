@@ -50,23 +50,24 @@ proper_kept n m k g before (p ∷ c) h = (
   proper_kept n m k g (before ++ p ∷ []) c h.1,
 )
 
+-- where no call becomes one that gives futures, an expression keeps its facts
+pub expr_by : (core other : Core) → ((f : Name) → GivesNoFuture core f → GivesNoFuture other f) → (g : Grades) (rs : List Name) (e : Expr) → StaticExpr core g rs e → StaticExpr other g rs e
+expr_by core other plain g rs e s = record {
+  demands = s.demands;
+  arrow = s.arrow;
+  number = s.number;
+  plain = All-weaker (GivesNoFuture core) (GivesNoFuture other) plain (called_async e.form) s.plain;
+  branch = s.branch;
+}
+
 module _ (core other : Core) (h : Reordering core other) where
   plain_kept : (f : Name) → GivesNoFuture core f → GivesNoFuture other f
   plain_kept f k n is = k n (ap (λ (ns : List Node). node_named ns f) (sym (interfaces_same core.nodes other.nodes h.nodes)) ∙ is)
 
-  expr_kept : (g : Grades) (rs : List Name) (e : Expr) → StaticExpr core g rs e → StaticExpr other g rs e
-  expr_kept g rs e s = record {
-    demands = s.demands;
-    arrow = s.arrow;
-    number = s.number;
-    plain = All-weaker (GivesNoFuture core) (GivesNoFuture other) plain_kept (called_async e.form) s.plain;
-    branch = s.branch;
-  }
-
   equation_kept : (n m : CoreNode) → Reordered n m → (g : Grades) (e : CoreEquation) → StaticEquation core n g e → StaticEquation other m g e
   equation_kept n m k g e s = record {
     left = s.left;
-    right = All-weaker (StaticExpr core g e.resets) (StaticExpr other g e.resets) (expr_kept g e.resets) (inside e.right) s.right;
+    right = All-weaker (StaticExpr core g e.resets) (StaticExpr other g e.resets) (expr_by core other plain_kept g e.resets) (inside e.right) s.right;
     clock = proper_kept n m k g [] e.clock.steps s.clock;
     resets = s.resets;
   }
