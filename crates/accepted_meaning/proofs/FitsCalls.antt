@@ -16,12 +16,12 @@ use Rattle.hept_ast.specs.declared.tree.Ty.TheVariants as ty
 use Rattle.hept_ast.specs.declared.tree.Form.{Form, out-Form}
 use Rattle.hept_ast.specs.declared.tree.Form.TheOpen.{Form-F}
 use Rattle.hept_ast.specs.TypedValues.{IsValueOf, AreValuesOf}
-use Rattle.accepted_meaning.specs.Sound.{Within, Sees, Sound, is_constant, is_async_constant, is_variable, is_last, is_unary, is_binary, is_if, is_fby, is_pre, is_arrow, is_when, is_merge, is_call, is_async_call, is_get}
+use Rattle.sound_expressions.specs.Sound.{Within, Sees, Sound, is_constant, is_async_constant, is_variable, is_last, is_unary, is_binary, is_if, is_fby, is_pre, is_arrow, is_when, is_merge, is_call, is_async_call, is_get}
 use Rattle.accepted_meaning.specs.SoundNodes.{SoundNode}
 use Rattle.accepted_meaning.specs.Placing.{site_of}
 use Rattle.accepted_meaning.specs.Running.{Run, StandsIn, setting_of, types_in, IsKnown}
 use Rattle.accepted_meaning.specs.Structure.{IsCallIn}
-use Rattle.accepted_meaning.proofs.FitsValues.{get_fits, future_count}
+use Rattle.sound_expressions.proofs.FittedTypes.{get_fits, future_count}
 use Rattle.accepted_meaning.proofs.FitsWords.{unknown, says, asks, if_ends, count_ends, as_is, truth_is}
 use Rattle.accepted_meaning.proofs.FitsTruths.{known_by, present_truth, base_present}
 use Rattle.accepted_meaning.proofs.FitsKept.{Texts, Okay, given, IsGiven, Holds, Ended, is_given, okay_given, okay_as}

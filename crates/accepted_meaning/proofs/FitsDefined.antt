@@ -24,12 +24,12 @@ use Rattle.hept_ast.specs.declared.tree.Equation.TheOpen.{Equation-F}
 use Rattle.hept_ast.specs.declared.tree.Equation.TheViews.{roll-out-Equation}
 use Rattle.hept_ast.specs.declared.tree.Equation.TheVariants as equation
 use Rattle.hept_ast.proofs.PartsOf.{sets-Define, sets-Switch, sets-Reset, sets-Automaton}
-use Rattle.accepted_meaning.specs.Sound.{Within, Sees, Sound}
+use Rattle.sound_expressions.specs.Sound.{Within, Sees, Sound}
 use Rattle.accepted_meaning.specs.SoundNodes.{SoundLeft, no_left, a_left, SoundSwitch, HasNoGap, all_sets}
 use Rattle.accepted_meaning.specs.Placing.{at_branch, at_reset, site_of}
 use Rattle.accepted_meaning.specs.Running.{Run, StandsIn, setting_of, types_in, IsKnown}
 use Rattle.accepted_meaning.specs.Structure.{IsEquationOf, IsNotLocal}
-use Rattle.accepted_meaning.proofs.FitsValues.{same_is, one_of}
+use Rattle.sound_expressions.proofs.FittedTypes.{same_is, one_of}
 use Rattle.accepted_meaning.proofs.FitsWords.{unknown, says, asks, if_ends, as_is}
 use Rattle.accepted_meaning.proofs.FitsTruths.{Known, known_by, same_answer, base_present}
 use Rattle.accepted_meaning.proofs.FitsKept.{Texts, Okay, gone, missing, given, Ended, is_given, okay_given, okay_as, go_on_ends}

@@ -25,10 +25,10 @@ use Rattle.hept_ast.specs.declared.tree.Form.TheViews.{roll-out-Form}
 use Rattle.hept_ast.specs.declared.tree.Form.TheVariants as form
 use Rattle.hept_ast.proofs.FormsOf.{grade-Const, grade-Var, grade-Last, grade-Unary, grade-Binary, grade-If, grade-Fby, grade-Pre, grade-Arrow, grade-When, grade-Merge, grade-Call, grade-AsyncCall, grade-AsyncConst, grade-Get}
 use Rattle.hept_ast.specs.TypedValues.{FitsConst, IsValueOf, value_count}
-use Rattle.accepted_meaning.specs.Sound.{Within, Sees, Sound, SoundBranches, is_constant, is_async_constant, is_variable, is_last, is_unary, is_binary, is_if, is_fby, is_pre, is_arrow, is_when, is_merge, is_call, is_async_call, is_get, a_branch}
+use Rattle.sound_expressions.specs.Sound.{Within, Sees, Sound, SoundBranches, is_constant, is_async_constant, is_variable, is_last, is_unary, is_binary, is_if, is_fby, is_pre, is_arrow, is_when, is_merge, is_call, is_async_call, is_get, a_branch}
 use Rattle.accepted_meaning.specs.Placing.{site_of}
 use Rattle.accepted_meaning.specs.Running.{Run, StandsIn, setting_of, types_in, IsKnown}
-use Rattle.accepted_meaning.proofs.FitsValues.{alike_one, alike_two, EachIs, alike_each, if_fits, get_fits, unary_typed, binary_typed, UnaryTyped, BinaryTyped}
+use Rattle.sound_expressions.proofs.FittedTypes.{alike_one, alike_two, EachIs, alike_each, if_fits, get_fits, unary_typed, binary_typed, UnaryTyped, BinaryTyped}
 use Rattle.accepted_meaning.proofs.FitsWords.{unknown, says, asks, previous_ends, as_is}
 use Rattle.accepted_meaning.proofs.FitsTruths.{not_both, present_truth, restarted_truth, present_front, present_more, Earlier, earlier_map}
 use Rattle.accepted_meaning.proofs.FitsKept.{Texts, Okay, gone, missing, given, Holds, Ended, keeping, is_given, okay_given, okay_map, okay_as, go_on_ends}

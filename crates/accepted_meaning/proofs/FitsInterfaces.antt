@@ -22,15 +22,16 @@ use Rattle.hept_ast.specs.declared.tree.Node.{Node}
 use Rattle.hept_ast.specs.declared.tree.Ty.{Ty}
 use Rattle.hept_ast.specs.declared.tree.Form.{Form, out-Form}
 use Rattle.hept_ast.specs.declared.tree.Form.TheOpen.{Form-F}
-use Rattle.accepted_meaning.specs.Sound.{Within, Sound, SoundArguments, is_constant, is_async_constant, is_variable, is_last, is_unary, is_binary, is_if, is_fby, is_pre, is_arrow, is_when, is_merge, is_call, is_async_call, is_get, no_arguments, an_argument}
-use Rattle.accepted_meaning.specs.SoundNodes.{NamesDiffer, SoundNode, SoundInterface, within}
+use Rattle.sound_expressions.specs.Sound.{Within, Sound, SoundArguments, is_constant, is_async_constant, is_variable, is_last, is_unary, is_binary, is_if, is_fby, is_pre, is_arrow, is_when, is_merge, is_call, is_async_call, is_get, no_arguments, an_argument}
+use Rattle.accepted_meaning.specs.SoundNodes.{SoundNode, SoundInterface, within}
+use Rattle.sound_expressions.specs.Demands.{NamesDiffer}
 use Rattle.accepted_meaning.specs.Placing.{IsPlaced, at_top, at_call, at_branch, at_reset, at_state, site_of}
 use Rattle.accepted_meaning.specs.Running.{Run, IsSoundRun, StandsIn, setting_of, text_run}
 use Rattle.accepted_meaning.specs.Structure.{InputOf, OutputOf, IsCallIn, CallOf, AsyncCallOf, CallerOf, ArgumentOf, NodeOfName}
-use Rattle.accepted_meaning.proofs.FitsValues.{same_is, both_true, types_is, fits_parts, async_fits, one_of, all_true}
+use Rattle.sound_expressions.proofs.FittedTypes.{same_is, both_true, types_is, fits_parts, async_fits, one_of, all_true}
 use Rattle.accepted_meaning.proofs.FitsForms.{some_is}
 use Rattle.accepted_meaning.proofs.FitsScopes.{find_parts, written_is}
-use Rattle.accepted_meaning.proofs.StaticLists.{same_self}
+use Rattle.sound_expressions.proofs.Lists.{same_self}
 use Rattle.accepted_meaning.proofs.FitsTexts.{clock_of_seen}
 
 -- ---- names that differ

@@ -14,7 +14,7 @@ use Rattle.hept_ast.specs.declared.tree.Equation.{Equation, out-Equation}
 use Rattle.hept_ast.specs.declared.tree.Equation.TheOpen.{Equation-F}
 use Rattle.hept_ast.specs.declared.name.Place.{Place}
 use Rattle.hept_ast.specs.TypedValues.{IsValueOf}
-use Rattle.accepted_meaning.specs.Sound.{Within, Sees, Sound}
+use Rattle.sound_expressions.specs.Sound.{Within, Sees, Sound}
 use Rattle.accepted_meaning.specs.Placing.{site_of}
 use Rattle.accepted_meaning.specs.Running.{Run, IsSoundRun, StandsIn, types_in, IsKnown}
 use Rattle.accepted_meaning.specs.Structure.{SoundDefine, SoundSwitchOf, SoundResetOf, SoundAutomatonOf, SoundWeakOf, SoundStrongOf, BlockOfScope, BranchOutside, BodyOutside, StateOutside, ClockOfSeen, ClockInText, ClockHere, SeenFromHome, HomeOf, DefinesIs, NotLocalInBranch, NotLocalInBody, NotLocalInState, SeesInBranch, SeesInBody, SeesInState, GradeOfRight, CallOf, AsyncCallOf, CallerOf, ArgumentOf, InputOf, OutputOf, ConstantFits, StateOfName, InputAt}

@@ -2,7 +2,8 @@
 use Rattle.accepted_meaning.specs.Running.{Run, IsSoundRun, ExpressionsFit, VariablesFit, StatesFit, AbsentIsNotPresent, DefinedIsNotNil}
 use Rattle.accepted_meaning.proofs.StaticCalls.{node_of_name}
 use Rattle.accepted_meaning.proofs.StaticHomes.{seen_from_home, home_of}
-use Rattle.accepted_meaning.proofs.StaticValues.{constant_fits, state_of_name, input_is_there}
+use Rattle.accepted_meaning.proofs.StaticValues.{constant_fits, state_of_name}
+use Rattle.sound_expressions.proofs.Values.{input_is_there}
 use Rattle.accepted_meaning.proofs.TextApart.{not_local_in_branch, not_local_in_body, not_local_in_state, sees_in_branch, sees_in_body, sees_in_state}
 use Rattle.accepted_meaning.proofs.KnownReads.{defines_is, grade_of_right}
 use Rattle.accepted_meaning.proofs.FitsTexts.{parts_of_scope, block_of_scope, sound_define, sound_switch, sound_reset, sound_automaton, sound_weak, sound_strong, branch_outside, body_outside, state_outside, clock_of_seen, clock_in_text, clock_here}

@@ -15,7 +15,7 @@ use Rattle.hept_ast.specs.declared.tree.Node.{Node}
 use Rattle.hept_ast.specs.declared.tree.Ty.{Ty}
 use Rattle.hept_ast.specs.declared.tree.Ty.TheVariants as ty
 use Rattle.hept_ast.specs.TypedValues.{IsValueOf}
-use Rattle.accepted_meaning.specs.Sound.{Within, Sees}
+use Rattle.sound_expressions.specs.Sound.{Within, Sees}
 use Rattle.accepted_meaning.specs.SoundNodes.{SoundNode, SoundInit, SoundLast}
 use Rattle.accepted_meaning.specs.Placing.{IsPlaced, at_top, site_of}
 use Rattle.accepted_meaning.specs.Running.{Run, StandsIn, setting_of, text_run, types_in, IsKnown}
@@ -24,7 +24,7 @@ use Rattle.accepted_meaning.proofs.FitsWords.{says, reads, asks, if_ends, ends_m
 use Rattle.accepted_meaning.proofs.FitsTruths.{active_truth, restarted_truth, active_of, base_present, off_present, base_off, branch_active, state_active, called_active, branch_off, state_off, branch_quiet, body_quiet, state_quiet, earlier_map}
 use Rattle.accepted_meaning.proofs.FitsKept.{Texts, Okay, gone, given, IsGiven, Holds, Ended, keeping, is_given, okay_given, okay_map}
 use Rattle.hept_ast.specs.Types.{type_of_const}
-use Rattle.accepted_meaning.proofs.FitsValues.{same_is}
+use Rattle.sound_expressions.proofs.FittedTypes.{same_is}
 use Rattle.accepted_meaning.proofs.FitsForms.{some_is}
 use Rattle.accepted_meaning.proofs.FitsCalls.{present_ends}
 

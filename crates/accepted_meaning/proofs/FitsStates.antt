@@ -19,7 +19,7 @@ use Rattle.hept_ast.specs.declared.tree.Escape.{Escape}
 use Rattle.hept_ast.specs.declared.tree.Decl.{Decl}
 use Rattle.hept_ast.specs.declared.tree.Equation.{Equation, out-Equation}
 use Rattle.hept_ast.specs.declared.tree.Equation.TheOpen.{Equation-F}
-use Rattle.accepted_meaning.specs.Sound.{Within, Sees}
+use Rattle.sound_expressions.specs.Sound.{Within, Sees}
 use Rattle.accepted_meaning.specs.SoundNodes.{HasNoGap, all_sets}
 use Rattle.accepted_meaning.specs.Placing.{at_state, site_of}
 use Rattle.accepted_meaning.specs.Running.{Run, StandsIn, setting_of, IsKnown}

@@ -20,7 +20,7 @@ use Rattle.hept_ast.specs.declared.tree.Equation.TheOpen.{Equation-F}
 use Rattle.hept_ast.specs.declared.tree.Equation.TheViews.{roll-out-Equation}
 use Rattle.hept_ast.specs.declared.tree.Equation.TheVariants as equation
 use Rattle.hept_ast.proofs.PartsOf.{parts-Define, parts-Switch, parts-Reset, parts-Automaton}
-use Rattle.accepted_meaning.specs.Sound.{Within}
+use Rattle.sound_expressions.specs.Sound.{Within}
 use Rattle.accepted_meaning.specs.SoundNodes.{SoundPart}
 use Rattle.accepted_meaning.specs.Placing.{IsPlaced, at_top, at_call, at_branch, at_reset, at_state, site_of}
 use Rattle.accepted_meaning.specs.Running.{Run, StandsIn, setting_of, text_run}

@@ -14,7 +14,7 @@ use Rattle.hept_ast.specs.declared.tree.Decl.{Decl}
 use Rattle.hept_ast.specs.declared.tree.State.{State}
 use Rattle.hept_ast.specs.declared.tree.Equation.{Equation, out-Equation}
 use Rattle.hept_ast.specs.declared.tree.Equation.TheOpen.{Equation-F}
-use Rattle.accepted_meaning.specs.Sound.{Within, Sees}
+use Rattle.sound_expressions.specs.Sound.{Within, Sees}
 use Rattle.accepted_meaning.specs.Placing.{at_top}
 use Rattle.accepted_meaning.specs.Running.{Run, StandsIn, IsPlacedIn, IsSoundRun, setting_of, text_run, types_in}
 use Rattle.accepted_meaning.specs.Structure.{IsEquationOf, IsCallIn}

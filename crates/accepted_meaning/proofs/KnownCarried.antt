@@ -10,7 +10,7 @@ use Rattle.hept_ast.specs.Outputs.{asked}
 use Rattle.hept_ast.specs.declared.tree.Expr.{Expr}
 use Rattle.hept_ast.specs.declared.tree.Block.{Block}
 use Rattle.hept_ast.proofs.Depths.{by_rule, to_rule}
-use Rattle.accepted_meaning.specs.Sound.{Within}
+use Rattle.sound_expressions.specs.Sound.{Within}
 use Rattle.accepted_meaning.specs.Placing.{site_of}
 use Rattle.accepted_meaning.specs.Running.{Run, StandsIn, IsSoundRun, IsKnown, setting_of, types_in}
 use Rattle.accepted_meaning.specs.Structure.{Accessible, reach}

@@ -20,7 +20,7 @@ use Rattle.hept_ast.specs.declared.tree.Branch.{Branch}
 use Rattle.hept_ast.specs.declared.tree.State.{State}
 use Rattle.hept_ast.specs.declared.tree.Equation.{Equation, out-Equation}
 use Rattle.hept_ast.specs.declared.tree.Equation.TheOpen.{Equation-F}
-use Rattle.accepted_meaning.specs.Sound.{Within, Sees, AreAllTags}
+use Rattle.sound_expressions.specs.Sound.{Within, Sees, AreAllTags}
 use Rattle.accepted_meaning.specs.SoundNodes.{SoundLeft, no_left, a_left, SoundSwitch, HasNoGap, all_sets}
 use Rattle.accepted_meaning.specs.Placing.{site_of}
 use Rattle.accepted_meaning.specs.Running.{Run, StandsIn, IsKnown, setting_of, types_in}

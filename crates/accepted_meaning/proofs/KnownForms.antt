@@ -17,7 +17,7 @@ use Rattle.hept_ast.specs.declared.tree.Tag.{Tag}
 use Rattle.hept_ast.specs.declared.tree.TypeDec.{TypeDec}
 use Rattle.hept_ast.specs.declared.tree.ClockStep.{ClockStep}
 use Rattle.hept_ast.specs.TypedValues.{IsValueOf}
-use Rattle.accepted_meaning.specs.Sound.{Within, Sees, Sound, SoundArguments, SoundBranches, is_constant, is_async_constant, is_variable, is_last, is_unary, is_binary, is_if, is_fby, is_pre, is_arrow, is_when, is_merge, is_call, is_async_call, is_get, no_arguments, an_argument, no_branches, a_branch, AreAllTags, branch_tags}
+use Rattle.sound_expressions.specs.Sound.{Within, Sees, Sound, SoundArguments, SoundBranches, is_constant, is_async_constant, is_variable, is_last, is_unary, is_binary, is_if, is_fby, is_pre, is_arrow, is_when, is_merge, is_call, is_async_call, is_get, no_arguments, an_argument, no_branches, a_branch, AreAllTags, branch_tags}
 use Rattle.accepted_meaning.specs.Placing.{site_of}
 use Rattle.accepted_meaning.specs.Running.{Run, IsKnown, IsDataOf, value_data, setting_of, types_in}
 use Rattle.accepted_meaning.specs.Structure.{IsCallIn}

@@ -18,8 +18,8 @@ use Rattle.hept_ast.specs.declared.tree.State.{State}
 use Rattle.hept_ast.specs.declared.tree.Equation.{Equation, out-Equation}
 use Rattle.hept_ast.specs.declared.tree.Equation.TheOpen.{Equation-F}
 use Rattle.hept_ast.proofs.Depths.{to_rule}
-use Rattle.accepted_meaning.specs.Sound.{Within}
-use Rattle.accepted_meaning.specs.SoundNodes.{NamesDiffer}
+use Rattle.sound_expressions.specs.Sound.{Within}
+use Rattle.sound_expressions.specs.Demands.{NamesDiffer}
 use Rattle.accepted_meaning.specs.Placing.{site_of}
 use Rattle.accepted_meaning.specs.Running.{Run, IsKnown, setting_of}
 use Rattle.accepted_meaning.specs.Structure.{IsEquationOf}
@@ -31,7 +31,7 @@ use Rattle.accepted_meaning.proofs.KnownReads.{flat_in, map_in, contains_flat, f
 use Rattle.accepted_meaning.proofs.KnownSame.{Comes, Same, same_itself, same_trans, same_ask}
 use Rattle.accepted_meaning.proofs.TextLists.{names_append, is_in_declared}
 use Rattle.accepted_meaning.proofs.TextApart.{declared_by, declared_append, inner, inside, IsApart}
-use Rattle.accepted_meaning.proofs.StaticValues.{differ_right, not_in_first}
+use Rattle.sound_expressions.proofs.Values.{differ_right, not_in_first}
 
 -- ---- set somewhere inside an equation
 

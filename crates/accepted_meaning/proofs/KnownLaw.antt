@@ -14,7 +14,8 @@ use Rattle.accepted_meaning.proofs.TextApart.{not_local_in_branch, not_local_in_
 use Rattle.accepted_meaning.proofs.StaticHomes.{seen_from_home, home_of, source_of, rule_of_defined}
 use Rattle.accepted_meaning.proofs.StaticEnds.{reads_end}
 use Rattle.accepted_meaning.proofs.StaticCalls.{node_of_name, calls_end}
-use Rattle.accepted_meaning.proofs.StaticValues.{constant_fits, branch_of_value, merge_of_value, state_of_name, input_is_there}
+use Rattle.accepted_meaning.proofs.StaticValues.{constant_fits, branch_of_value, merge_of_value, state_of_name}
+use Rattle.sound_expressions.proofs.Values.{input_is_there}
 use Rattle.accepted_meaning.proofs.KnownReads.{reads_right, reads_on, reads_every, reads_strong, reads_around_of, reads_clock, grade_of_right, defines_is}
 use Rattle.accepted_meaning.proofs.KnownScopes.{Texts, Everything}
 use Rattle.accepted_meaning.proofs.KnownAll.{everything_known}

@@ -23,8 +23,9 @@ use Rattle.hept_ast.specs.declared.tree.State.{State}
 use Rattle.hept_ast.specs.declared.tree.Equation.{Equation, out-Equation}
 use Rattle.hept_ast.specs.declared.tree.Equation.TheOpen.{Equation-F}
 use Rattle.hept_ast.proofs.Depths.{by_rule}
-use Rattle.accepted_meaning.specs.Sound.{Within, IsTagOf}
-use Rattle.accepted_meaning.specs.SoundNodes.{NoTagTwice, SoundSwitch, all_sets}
+use Rattle.sound_expressions.specs.Sound.{Within, IsTagOf}
+use Rattle.accepted_meaning.specs.SoundNodes.{SoundSwitch, all_sets}
+use Rattle.sound_expressions.specs.Demands.{NoTagTwice}
 use Rattle.accepted_meaning.specs.Placing.{site_of}
 use Rattle.accepted_meaning.specs.Running.{Run, StandsIn, IsSoundRun, IsKnown, setting_of, types_in}
 use Rattle.accepted_meaning.specs.Structure.{HasPart, defined_in, IsEquationOf}

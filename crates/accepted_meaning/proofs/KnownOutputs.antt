@@ -8,7 +8,7 @@ use Rattle.hept_ast.specs.Outputs.{said, asked, HaveValues, OutputsFrom, Outputs
 use Rattle.hept_ast.specs.declared.tree.Decl.{Decl}
 use Rattle.hept_ast.proofs.Depths.{to_rule, one_answer}
 use Rattle.hept_ast.specs.TypedValues.{IsValueOf, RowFits, RowsFit}
-use Rattle.accepted_meaning.specs.Sound.{Within, Sees}
+use Rattle.sound_expressions.specs.Sound.{Within, Sees}
 use Rattle.accepted_meaning.specs.SoundNodes.{within}
 use Rattle.accepted_meaning.specs.Placing.{at_top}
 use Rattle.accepted_meaning.specs.Running.{Run, StandsIn, IsKnown, IsSoundRun, IsDataOf, no_data, nil_data, value_data, AbsentIsNotPresent, DefinedIsNotNil, setting_of, text_run, types_in}

@@ -8,7 +8,7 @@ use Rattle.hept_ast.specs.Meaning.{Variable, Last, Present, Active, Restarted, a
 use Rattle.hept_ast.specs.declared.tree.Decl.{Decl}
 use Rattle.hept_ast.specs.declared.tree.Expr.{Expr}
 use Rattle.hept_ast.specs.declared.tree.Block.{Block}
-use Rattle.accepted_meaning.specs.Sound.{Within, Sees}
+use Rattle.sound_expressions.specs.Sound.{Within, Sees}
 use Rattle.accepted_meaning.specs.Placing.{site_of}
 use Rattle.accepted_meaning.specs.Running.{Run, StandsIn, setting_of}
 use Rattle.accepted_meaning.specs.Structure.{IsHome, IsSeenFrom, at_home, in_branch, in_body, in_state}

@@ -25,7 +25,7 @@ use Rattle.hept_ast.specs.declared.tree.Equation.TheViews.{roll-Equation}
 use Rattle.hept_ast.specs.declared.tree.Equation.TheVariants as eqv
 use Rattle.hept_ast.proofs.PartsOf.{parts-Define, parts-Switch, parts-Reset, parts-Automaton}
 use Rattle.hept_ast.proofs.Depths.{to_rule}
-use Rattle.accepted_meaning.specs.Sound.{Within, Sees}
+use Rattle.sound_expressions.specs.Sound.{Within, Sees}
 use Rattle.accepted_meaning.specs.SoundNodes.{a_left, no_left, SoundLeft}
 use Rattle.accepted_meaning.specs.Placing.{site_of}
 use Rattle.accepted_meaning.specs.Running.{Run}

@@ -17,7 +17,7 @@ use Rattle.hept_ast.specs.declared.tree.Equation.{Equation, out-Equation}
 use Rattle.hept_ast.specs.declared.tree.Equation.TheOpen.{Equation-F}
 use Rattle.hept_ast.specs.declared.name.Place.{Place}
 use Rattle.hept_ast.specs.declared.tree.Ty.{Ty}
-use Rattle.accepted_meaning.specs.Sound.{Within, Sees, Sound}
+use Rattle.sound_expressions.specs.Sound.{Within, Sees, Sound}
 use Rattle.accepted_meaning.specs.Placing.{at_state, at_reset, at_branch, site_of}
 use Rattle.accepted_meaning.specs.Running.{IsSoundRun, IsPlacedIn, Run, StandsIn, IsKnown, IsDataOf, no_data, nil_data, value_data, ExpressionsFit, VariablesFit, StatesFit, setting_of, types_in}
 use Rattle.accepted_meaning.specs.Structure.{IsEquationOf, BlockOfScope, SoundDefine, SoundSwitchOf, SoundResetOf, SoundAutomatonOf, SoundWeakOf, SoundStrongOf, BranchOutside, BodyOutside, StateOutside, ClockOfSeen, ClockInText, ClockHere, SeenFromHome, HomeOf, SourceOf, RuleOfDefined, DefinesIs, NotLocalInBranch, NotLocalInBody, NotLocalInState, SeesInBranch, SeesInBody, SeesInState, ReadsRight, ReadsOn, ReadsEvery, ReadsStrong, ReadsAround, ReadsClock, ReadsEnd, CallsNode, CallsEnd, CallOf, AsyncCallOf, ArgumentOf, InputOf, OutputOf, BranchOfValue, MergeOfValue, InputAt}

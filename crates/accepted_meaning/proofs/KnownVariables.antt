@@ -6,7 +6,7 @@ use Rattle.hept_ast.specs.Parts.{sets_of}
 use Rattle.hept_ast.specs.Causal.{Reads}
 use Rattle.hept_ast.specs.Meaning.{Variable, Defined, Present, Active, Restarted, Rule, clock_in, own_rule}
 use Rattle.hept_ast.specs.declared.tree.Decl.{Decl}
-use Rattle.accepted_meaning.specs.Sound.{Within, Sees}
+use Rattle.sound_expressions.specs.Sound.{Within, Sees}
 use Rattle.accepted_meaning.specs.Placing.{site_of}
 use Rattle.accepted_meaning.specs.Running.{Run, StandsIn, setting_of}
 use Rattle.accepted_meaning.specs.Structure.{IsEquationOf, IsHome, HasSource, top_input, called_input, by_equation, Accessible, reach, CallsNode}

@@ -1,7 +1,3 @@
-pub mod StaticLists
-pub mod StaticForms
-pub mod StaticJudged
-pub mod StaticExpressions
 pub mod StaticParts
 pub mod StaticScopes
 pub mod StaticNodes
@@ -15,7 +11,6 @@ pub mod StaticConditions
 pub mod StaticGroups
 pub mod StaticKept
 pub mod StaticSteps
-pub mod FitsValues
 pub mod FitsWords
 pub mod FitsTruths
 mod KnownRules

@@ -25,9 +25,9 @@ use Rattle.hept_ast.specs.declared.tree.Equation.{Equation, out-Equation}
 use Rattle.hept_ast.specs.declared.tree.Equation.TheOpen.{Equation-F}
 use Rattle.std.proofs.lemmas.List.{length-map}
 use Rattle.accepted_meaning.proofs.TextLists.{no_some}
-use Rattle.accepted_meaning.specs.Sound.{Within, Sound, is_constant, is_async_constant, is_variable, is_last, is_unary, is_binary, is_if, is_fby, is_pre, is_arrow, is_when, is_merge, is_call, is_async_call, is_get}
+use Rattle.sound_expressions.specs.Sound.{Within, Sound, is_constant, is_async_constant, is_variable, is_last, is_unary, is_binary, is_if, is_fby, is_pre, is_arrow, is_when, is_merge, is_call, is_async_call, is_get}
 use Rattle.accepted_meaning.specs.SoundNodes.{SoundProgram}
-use Rattle.accepted_meaning.proofs.FitsValues.{get_fits}
+use Rattle.sound_expressions.proofs.FittedTypes.{get_fits}
 use Rattle.accepted_meaning.proofs.FitsForms.{some_is}
 use Rattle.accepted_meaning.proofs.FitsTexts.{branch_outside, body_outside, state_outside, sound_define, sound_switch, sound_reset, sound_weak, sound_strong, clock_here}
 use Rattle.accepted_meaning.proofs.FitsInterfaces.{caller_of, call_of_node, async_call_of_node, of_call}
@@ -35,7 +35,7 @@ use Rattle.accepted_meaning.proofs.FitsStates.{state_stands}
 use Rattle.accepted_meaning.proofs.FitsDefined.{Left_at, left_at, left_length}
 use Rattle.accepted_meaning.proofs.StaticCalls.{node_of_name}
 use Rattle.accepted_meaning.proofs.KnownTrees.{call_single}
-use Rattle.accepted_meaning.proofs.StaticValues.{place_small}
+use Rattle.sound_expressions.proofs.Values.{place_small}
 use Rattle.accepted_meaning.proofs.FitsScopes.{find_parts}
 use Rattle.accepted_meaning.proofs.FitsWords.{IsTruth}
 use Rattle.accepted_meaning.proofs.FitsTruths.{Known, known_by, same_answer, defines_truth_of}

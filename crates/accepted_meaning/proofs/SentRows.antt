@@ -17,11 +17,11 @@ use Rattle.hept_ast.specs.declared.tree.Ty.{Ty}
 use Rattle.hept_ast.specs.declared.tree.Equation.TheOpen.{Equation-F}
 use Rattle.hept_ast.specs.TypedValues.{IsValueOf, RowFits, RowsFit}
 use Rattle.accepted_meaning.specs.Ranges.{HasLeft, IsInRange}
-use Rattle.accepted_meaning.specs.Sound.{Within, Sound, SoundArguments, no_arguments, an_argument}
+use Rattle.sound_expressions.specs.Sound.{Within, Sound, SoundArguments, no_arguments, an_argument}
 use Rattle.accepted_meaning.specs.Placing.{site_of}
 use Rattle.accepted_meaning.specs.Running.{Run, StandsIn, setting_of, types_in, IsKnown}
 use Rattle.accepted_meaning.specs.Asked.{IsScoped, IsAsked}
-use Rattle.accepted_meaning.proofs.FitsValues.{all_true, one_of}
+use Rattle.sound_expressions.proofs.FittedTypes.{all_true, one_of}
 use Rattle.accepted_meaning.proofs.FitsWords.{IsTruth, as_is}
 use Rattle.accepted_meaning.proofs.FitsTruths.{present_truth, restarted_truth}
 use Rattle.accepted_meaning.proofs.FitsKept.{Texts, is_given, IsGiven}

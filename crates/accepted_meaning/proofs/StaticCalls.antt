@@ -20,11 +20,12 @@ use Rattle.hept_ast.specs.declared.tree.Form.TheVariants as form
 use Rattle.hept_ast.proofs.FormsOf.{below-Const, below-Var, below-Last, below-Unary, below-Binary, below-If, below-Fby, below-Pre, below-Arrow, below-When, below-Merge, below-Call, below-AsyncCall, below-AsyncConst, below-Get}
 use Rattle.hept_ast.proofs.CalledForms.{called-Const, called-Var, called-Last, called-Unary, called-Binary, called-If, called-Fby, called-Pre, called-Arrow, called-When, called-Merge, called-Call, called-AsyncCall, called-AsyncConst, called-Get}
 use Rattle.hept_ast.specs.Stages.{ClockedProgram}
-use Rattle.accepted_meaning.specs.Sound.{Within, Sound, SoundArguments, SoundBranches, no_arguments, an_argument, no_branches, a_branch, is_constant, is_async_constant, is_variable, is_last, is_unary, is_binary, is_if, is_fby, is_pre, is_arrow, is_when, is_merge, is_call, is_async_call, is_get}
-use Rattle.accepted_meaning.specs.SoundNodes.{NamesDiffer, SoundNode, SoundPart, SoundProgram, within}
+use Rattle.sound_expressions.specs.Sound.{Within, Sound, SoundArguments, SoundBranches, no_arguments, an_argument, no_branches, a_branch, is_constant, is_async_constant, is_variable, is_last, is_unary, is_binary, is_if, is_fby, is_pre, is_arrow, is_when, is_merge, is_call, is_async_call, is_get}
+use Rattle.accepted_meaning.specs.SoundNodes.{SoundNode, SoundPart, SoundProgram, within}
+use Rattle.sound_expressions.specs.Demands.{NamesDiffer}
 use Rattle.accepted_meaning.specs.Running.{IsSoundRun, Run}
 use Rattle.accepted_meaning.specs.Structure.{Accessible, CallsEnd, CallsNode, NodeOfName}
-use Rattle.accepted_meaning.proofs.StaticLists.{same_is, same_self}
+use Rattle.sound_expressions.proofs.Lists.{same_is, same_self}
 use Rattle.accepted_meaning.proofs.StaticParts.{among}
 use Rattle.accepted_meaning.proofs.StaticNodes.{named_node}
 use Rattle.accepted_meaning.proofs.StaticEnds.{Chain, all_end}

@@ -10,10 +10,10 @@ use Rattle.hept_ast.specs.Parts.{Surroundings, Part, Block, Plain, Switch, Reset
 use Rattle.hept_ast.specs.Causal.{HasNoCycle, InTurn, Reads, reads, reads_around, reads_in}
 use Rattle.hept_ast.specs.ClockMaps.{clock_in, path_among, steps_or_none}
 use Rattle.hept_ast.specs.declared.clocks.NamedClock.{NamedClock}
-use Rattle.accepted_meaning.specs.Sound.{Within}
+use Rattle.sound_expressions.specs.Sound.{Within}
 use Rattle.accepted_meaning.specs.Running.{Run}
 use Rattle.accepted_meaning.specs.Structure.{Accessible, ReadsEnd, reach}
-use Rattle.accepted_meaning.proofs.StaticLists.{is_in_left, is_in_right, same_is}
+use Rattle.sound_expressions.proofs.Lists.{is_in_left, is_in_right, same_is}
 
 -- ---- a list without a name
 

@@ -12,11 +12,11 @@ use Rattle.hept_ast.specs.declared.tree.Node.{Node}
 use Rattle.hept_ast.specs.declared.tree.Escape.{Escape}
 use Rattle.hept_ast.specs.declared.tree.Equation.{Equation, Define, Switch', Reset', Automaton', Row_of-Equation, end_of-Equation, more_of-Equation, Row_of-Branch, end_of-Branch, more_of-Branch, Row_of-Block, end_of-Block, more_of-Block, Row_of-State, end_of-State, more_of-State}
 use Rattle.hept_ast.proofs.Unfolded.{static}
-use Rattle.accepted_meaning.specs.SoundNodes.{NamesDiffer}
-use Rattle.accepted_meaning.proofs.StaticValues.{differ_right, not_in_first}
+use Rattle.sound_expressions.specs.Demands.{NamesDiffer}
+use Rattle.sound_expressions.proofs.Values.{differ_right, not_in_first}
 use Rattle.accepted_meaning.proofs.StaticScopes.{each_left, each_right, each_append}
 use Rattle.accepted_meaning.proofs.StaticEnds.{either_in}
-use Rattle.accepted_meaning.proofs.StaticLists.{is_in_left, is_in_right, same_self}
+use Rattle.sound_expressions.proofs.Lists.{is_in_left, is_in_right, same_self}
 use Rattle.accepted_meaning.proofs.TextLists.{contains_cases, contains_none, names_append}
 
 -- ---- the last name of a list

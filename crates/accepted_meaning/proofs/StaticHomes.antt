@@ -12,13 +12,14 @@ use Rattle.hept_ast.specs.Meaning.{Defined, Reads, answer_to, argument_rule}
 use Rattle.hept_ast.specs.declared.tree.Decl.{Decl}
 use Rattle.hept_ast.specs.declared.tree.Node.{Node}
 use Rattle.hept_ast.specs.declared.tree.Equation.{Equation}
-use Rattle.accepted_meaning.specs.Sound.{Within, Sees}
-use Rattle.accepted_meaning.specs.SoundNodes.{NamesDiffer, all_sets}
+use Rattle.sound_expressions.specs.Sound.{Within, Sees}
+use Rattle.accepted_meaning.specs.SoundNodes.{all_sets}
+use Rattle.sound_expressions.specs.Demands.{NamesDiffer}
 use Rattle.accepted_meaning.specs.Placing.{site_of}
 use Rattle.accepted_meaning.specs.Running.{Run, StandsIn, setting_of}
 use Rattle.accepted_meaning.specs.Structure.{HasPart, HomeOf, IsHome, IsSeenFrom, RuleOfDefined, SeenFromHome, SourceOf, at_home, by_equation, called_input, defined_in, in_branch, in_body, in_state, top_input}
-use Rattle.accepted_meaning.proofs.StaticLists.{same_is, same_self}
-use Rattle.accepted_meaning.proofs.StaticValues.{differ_left, not_in_first}
+use Rattle.sound_expressions.proofs.Lists.{same_is, same_self}
+use Rattle.sound_expressions.proofs.Values.{differ_left, not_in_first}
 use Rattle.accepted_meaning.proofs.FitsTexts.{block_of_scope, body_outside, branch_outside, clock_in_text, clock_of_seen, state_outside}
 use Rattle.accepted_meaning.proofs.TextLists.{contains_cases, contains_none, declaration_left, declaration_right, declared_name, is_in_declared, is_in_contains, contains_map, contains_flat, names_append, flat_is_in, mapped}
 

@@ -6,7 +6,7 @@ use Rattle.hept_ast.specs.Texts.{Name, same}
 use Rattle.hept_ast.specs.Scopes.{Clock}
 use Rattle.hept_ast.specs.Types.{same_tag}
 use Rattle.hept_ast.specs.declared.tree.ClockStep.{ClockStep}
-use Rattle.accepted_meaning.proofs.StaticLists.{same_is, same_self, same_tag_is, same_tag_self}
+use Rattle.sound_expressions.proofs.Lists.{same_is, same_self, same_tag_is, same_tag_self}
 
 -- ---- equal clocks
 

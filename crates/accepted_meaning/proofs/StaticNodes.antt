@@ -21,12 +21,14 @@ use Rattle.hept_ast.specs.declared.tree.TypeDec.{TypeDec}
 use Rattle.hept_ast.specs.declared.tree.Node.{Node}
 use Rattle.hept_ast.specs.declared.tree.Decl.{Decl}
 use Rattle.hept_ast.specs.declared.tree.Expr.{Expr}
-use Rattle.accepted_meaning.specs.Ranges.{FitsForm, FitsInit, IsInRange}
-use Rattle.accepted_meaning.specs.Sound.{Within}
-use Rattle.accepted_meaning.specs.SoundNodes.{NamesDiffer, SoundInterface, SoundNode, SoundPart}
+use Rattle.accepted_meaning.specs.Ranges.{FitsInit, IsInRange}
+use Rattle.sound_expressions.specs.Demands.{Demanded, FitsForm}
+use Rattle.sound_expressions.specs.Sound.{Within}
+use Rattle.accepted_meaning.specs.SoundNodes.{SoundInterface, SoundNode, SoundPart}
+use Rattle.sound_expressions.specs.Demands.{NamesDiffer}
 use Rattle.accepted_meaning.specs.Laws.{AcceptedIsSound}
-use Rattle.accepted_meaning.proofs.StaticLists.{is_in_right, nil_left, nil_right, none_of_each, none_of, no_fault, same_is, same_self, names_differ}
-use Rattle.accepted_meaning.proofs.StaticExpressions.{Demanded, SeenHaveTags, is_met, meets_left, meets_right, all_left, all_right}
+use Rattle.sound_expressions.proofs.Lists.{is_in_right, nil_left, nil_right, none_of_each, none_of, no_fault, same_is, same_self, names_differ}
+use Rattle.sound_expressions.proofs.Expressions.{is_met, meets_left, meets_right, all_left, all_right}
 use Rattle.accepted_meaning.proofs.StaticParts.{among, each_meets, init_sound, part_sound}
 use Rattle.accepted_meaning.proofs.StaticSteps.{steps_seen}
 use Rattle.accepted_meaning.proofs.StaticScopes.{around_parts, of_declared, some_tag}
@@ -180,30 +182,10 @@ module _ (program : Program) (node : Node) (clock : Name → Clock) (g : Grades)
   expressions_met : flat_map (λ e. unmet_by g e.place.0 e.form) (expressions node) ≡ []
   expressions_met = nil_right (flat_map (unmet_decl g) node.outputs ++ flat_map (λ (q : Placed). unmet_part g (seen_at node q.site) q.part) (parts node)) _ h.met
 
-  -- each expression
   started_plain : (f : Name) → is_in f (async_nodes program.nodes) ≡ true → (n : Node) → node_named program.nodes f ≡ Some n → list_all is_plain (types_of n.outputs) ≡ true
   started_plain f started n is =
       let (clean, named) = named_node program.nodes f n (λ (n : Node). node_faults program n ≡ []) h.each_node is in
       plain_outputs program n clean (subst (λ (x : Name). is_in x (async_nodes program.nodes) ≡ true) named started)
-
-  demanded_of : (e : Expr) → Contains (expressions node) e → Demanded k e
-  demanded_of e at =
-      let started = λ (n : Node). flat_map (λ (x : Expr). called_async x.form) (expressions n) in
-      let here = each_among (λ (x : Expr). called_async x.form) (expressions node) e at in
-      let there = each_among started program.nodes node h.among_nodes in
-      record {
-        met = none_of (λ (x : Expr). unmet_by g x.place.0 x.form) (expressions node) expressions_met e at;
-        made = each_among (λ (x : Expr). called x.form) (expressions node) e at;
-        number = All-contains (λ (x : Expr). FitsForm (out-Form x.form)) (expressions node) e (All-contains (λ (n : Node). All (λ (x : Expr). FitsForm (out-Form x.form)) (expressions n)) program.nodes node h.in_range.constants h.among_nodes) at;
-        plain = All-weaker (λ (f : Name). is_in f (async_nodes program.nodes) ≡ true) (λ (f : Name). (n : Node) → node_named program.nodes f ≡ Some n → list_all is_plain (types_of n.outputs) ≡ true) started_plain (called_async e.form)
-            (each_within (λ (f : Name). is_in f (async_nodes program.nodes) ≡ true) (λ (x : Expr). called_async x.form) (expressions node) e there at);
-      }
-
-  all_demanded : All (Demanded k) (expressions node)
-  all_demanded = All-weaker (Contains (expressions node)) (Demanded k) demanded_of (expressions node) (All-contains_itself (expressions node))
-
-  demanded_in : (q : Placed) → Contains (parts node) q → All (Demanded k) (flat_map inside (expressions_of q.part))
-  demanded_in q at = each_within (Demanded k) (λ (q : Placed). flat_map inside (expressions_of q.part)) (parts node) q all_demanded at
 
   -- ---- types of declarations
 
@@ -252,8 +234,26 @@ module _ (program : Program) (node : Node) (clock : Name → Clock) (g : Grades)
       (all_right Known node.outputs node.block.locals known_own))
       (all_left Known node.outputs node.block.locals known_own)) known_inputs
 
-  tagged_at : (q : Placed) → Contains (parts node) q → SeenHaveTags k q.site
-  tagged_at q at = record { some = λ x d is tagged e. some_tag program.types d.ty h.in_range.constructors (of_declared Known (seen_at node q.site) x d (known_seen q at) is) tagged e }
+  -- ---- expressions
+
+  demanded_of : (q : Placed) → Contains (parts node) q → (e : Expr) → Contains (expressions node) e → Demanded k q.site e
+  demanded_of q there_is e at =
+      let started = λ (n : Node). flat_map (λ (x : Expr). called_async x.form) (expressions n) in
+      let here = each_among (λ (x : Expr). called_async x.form) (expressions node) e at in
+      let there = each_among started program.nodes node h.among_nodes in
+      record {
+        met = none_of (λ (x : Expr). unmet_by g x.place.0 x.form) (expressions node) expressions_met e at;
+        made = each_among (λ (x : Expr). called x.form) (expressions node) e at;
+        number = All-contains (λ (x : Expr). FitsForm (out-Form x.form)) (expressions node) e (All-contains (λ (n : Node). All (λ (x : Expr). FitsForm (out-Form x.form)) (expressions n)) program.nodes node h.in_range.constants h.among_nodes) at;
+        plain = All-weaker (λ (f : Name). is_in f (async_nodes program.nodes) ≡ true) (λ (f : Name). (n : Node) → node_named program.nodes f ≡ Some n → list_all is_plain (types_of n.outputs) ≡ true) started_plain (called_async e.form)
+            (each_within (λ (f : Name). is_in f (async_nodes program.nodes) ≡ true) (λ (x : Expr). called_async x.form) (expressions node) e there at);
+        merged = λ x d none is tagged f. some_tag program.types d.ty h.in_range.constructors (of_declared Known (seen_at node q.site) x d (known_seen q there_is) is) tagged f;
+      }
+
+  demanded_in : (q : Placed) → Contains (parts node) q → All (Demanded k q.site) (flat_map inside (expressions_of q.part))
+  demanded_in q at =
+      each_within (Demanded k q.site) (λ (q : Placed). flat_map inside (expressions_of q.part)) (parts node) q
+      (All-weaker (Contains (expressions node)) (Demanded k q.site) (demanded_of q at) (expressions node) (All-contains_itself (expressions node))) at
 
   -- ---- parts
 
@@ -270,7 +270,7 @@ module _ (program : Program) (node : Node) (clock : Name → Clock) (g : Grades)
   sound_part q at =
       let m = All-contains (λ (q : Placed). (m : ℕ) × Meets a (part_conditions (own_names node q.site) (seen_at node q.site) m q.part)) (parts node) q
       (numbered_meet a node 0 (parts node) (meets_right a interface_conditions _ h.meets)) at in
-      part_sound k q.site (is_strong q.part) h.numbers (tagged_at q at) q.part m.0 (initials_in q at) (part_clean q at) m.1 (demanded_in q at)
+      part_sound k q.site (is_strong q.part) h.numbers q.part m.0 (initials_in q at) (part_clean q at) m.1 (demanded_in q at)
       (none_of (λ (q : Placed). unmet_part g (seen_at node q.site) q.part) (parts node) parts_met q at)
 
   -- ---- inputs and outputs

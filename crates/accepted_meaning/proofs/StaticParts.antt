@@ -20,10 +20,12 @@ use Rattle.hept_ast.specs.declared.tree.Ty.{Ty}
 use Rattle.hept_ast.specs.declared.tree.Ty.TheVariants as ty
 use Rattle.hept_ast.proofs.JudgeOf.{judge_of}
 use Rattle.accepted_meaning.specs.Ranges.{FitsInit}
-use Rattle.accepted_meaning.specs.Sound.{Within, Sees, Sound}
-use Rattle.accepted_meaning.specs.SoundNodes.{NoTagTwice, SoundInit, SoundLeft, no_left, a_left, all_sets, HasNoGap, AreSoundCases, SoundSwitch, SoundCondition, SoundPart}
-use Rattle.accepted_meaning.proofs.StaticLists.{no_tag_twice, nil_left, nil_right, none_of, no_fault, any_false, same_is, same_type_is, same_types_is}
-use Rattle.accepted_meaning.proofs.StaticExpressions.{judging_at, assigned, Demanded, SeenHaveTags, meets_left, meets_right, all_left, is_met, found, tag_is, all_tags, expression_sound}
+use Rattle.sound_expressions.specs.Sound.{Within, Sees, Sound}
+use Rattle.accepted_meaning.specs.SoundNodes.{SoundInit, SoundLeft, no_left, a_left, all_sets, HasNoGap, AreSoundCases, SoundSwitch, SoundCondition, SoundPart}
+use Rattle.sound_expressions.specs.Demands.{NoTagTwice}
+use Rattle.sound_expressions.proofs.Lists.{no_tag_twice, nil_left, nil_right, none_of, no_fault, any_false, same_is, same_type_is, same_types_is}
+use Rattle.sound_expressions.specs.Demands.{Demanded, assigned, judging_at}
+use Rattle.sound_expressions.proofs.Expressions.{meets_left, meets_right, all_left, is_met, found, tag_is, all_tags, expression_sound}
 
 -- ---- lists
 
@@ -102,9 +104,9 @@ init_sound k w same_types_there d number e base met = init_of k w same_types_the
 
 -- ---- parts
 
-module _ (k : Within) (site : Surroundings) (strong : Bool) (numbers : ℕ → Clock) (tagged : SeenHaveTags k site) where
+module _ (k : Within) (site : Surroundings) (strong : Bool) (numbers : ℕ → Clock) where
   abbrev w : Judging
-  w = judging_at k site strong
+  w = judging_at k site strong k.node
 
   abbrev a : Assignment
   a = assigned k numbers
@@ -115,11 +117,11 @@ module _ (k : Within) (site : Surroundings) (strong : Bool) (numbers : ℕ → C
   abbrev seen : List Decl
   seen = seen_at k.node site
 
-  right_sound : (e : Expr) (n : ℕ) → (judge_of w false e).faults ≡ [] → Meets a (expression own n e.place.0 e.form) → All (Demanded k) (inside e) →
+  right_sound : (e : Expr) (n : ℕ) → (judge_of w false e).faults ≡ [] → Meets a (expression own n e.place.0 e.form) → All (Demanded k site) (inside e) →
       (ts : List Ty) × ((judge_of w false e).types ≡ Some ts) × Sound k site e (clock a (term_of own n e.form)) ts
-  right_sound e n f meets d = expression_sound k site strong numbers tagged e false n f meets d
+  right_sound e n f meets d = expression_sound k site strong k.node refl numbers e false n f meets d
 
-  base_sound : (e : Expr) (n : ℕ) → (judge_of w false e).faults ≡ [] → Meets a (on_base own n e) → All (Demanded k) (inside e) →
+  base_sound : (e : Expr) (n : ℕ) → (judge_of w false e).faults ≡ [] → Meets a (on_base own n e) → All (Demanded k site) (inside e) →
       (ts : List Ty) × ((judge_of w false e).types ≡ Some ts) × Sound k site e [] ts
   base_sound e n f meets d =
       let (ts, t, s) = right_sound e n f meets.1 d in
@@ -131,7 +133,7 @@ module _ (k : Within) (site : Surroundings) (strong : Bool) (numbers : ℕ → C
   below_demanded : (p : ℕ) (pass : List Ty → Bool) (j : Judged (List Ty)) → demanded w p pass j ≡ [] → j.faults ≡ []
   below_demanded p pass j e = nil_right (fault p Mismatch (not (option_map_or pass j.types true))) j.faults e
 
-  condition_sound : (p : ℕ) (e : Expr) (n : ℕ) → demanded w p (is_bool w) (judge_of w false e) ≡ [] → Meets a (on_base own n e) → All (Demanded k) (inside e) → unmet_expr k.grade e ≡ [] → SoundCondition k site e
+  condition_sound : (p : ℕ) (e : Expr) (n : ℕ) → demanded w p (is_bool w) (judge_of w false e) ≡ [] → Meets a (on_base own n e) → All (Demanded k site) (inside e) → unmet_expr k.grade e ≡ [] → SoundCondition k site e
   condition_sound p e n f meets d met =
       let (ts, t, s) = base_sound e n (below_demanded p (is_bool w) (judge_of w false e) f) meets d in
       record {
@@ -191,7 +193,7 @@ module _ (k : Within) (site : Surroundings) (strong : Bool) (numbers : ℕ → C
   one_type_of (t ∷ u ∷ us) h = absurd (false≢true h)
 
   switch_sound : (p : ℕ) (on : Expr) (cases : List (Case Tag)) (n : ℕ) → part_faults w (Switch p on cases) ≡ [] → Meets a (part_conditions own seen n (Switch p on cases)) →
-      All (Demanded k) (inside on) → unmet_part k.grade seen (Switch p on cases) ≡ [] → SoundSwitch k site on cases
+      All (Demanded k site) (inside on) → unmet_part k.grade seen (Switch p on cases) ≡ [] → SoundSwitch k site on cases
   switch_sound p on cases n e meets d met =
       let j = judge_of w false on in
       let type = one_type w j.types in
@@ -237,7 +239,7 @@ module _ (k : Within) (site : Surroundings) (strong : Bool) (numbers : ℕ → C
       defined_here : is_some d.init ≡ true → k.grade d.name ≡ false
       defined_here h = is_met d.place.0 _ (subst (λ (b : Bool). (if b then unmet_decl k.grade d else []) ≡ []) h (none_of (λ (d : Decl). if is_some d.init then unmet_decl k.grade d else []) ds met d at))
 
-  pub part_sound : (q : Part) (n : ℕ) → All (λ (d : Decl). FitsInit d.init) (declared_in q) → part_faults w q ≡ [] → Meets a (part_conditions own seen n q) → All (Demanded k) (flat_map inside (expressions_of q)) → unmet_part k.grade seen q ≡ [] → SoundPart k site q
+  pub part_sound : (q : Part) (n : ℕ) → All (λ (d : Decl). FitsInit d.init) (declared_in q) → part_faults w q ≡ [] → Meets a (part_conditions own seen n q) → All (Demanded k site) (flat_map inside (expressions_of q)) → unmet_part k.grade seen q ≡ [] → SoundPart k site q
   part_sound (Block ds equations) n small e meets d met = block_sound ds equations n small e meets met
   part_sound (Plain p left right) n small e meets d met =
       let j = judge_of w false right in
@@ -248,14 +250,14 @@ module _ (k : Within) (site : Surroundings) (strong : Bool) (numbers : ℕ → C
       let e3 : demand ≡ [] = nil_right (first ++ twice) demand e in
       let term = term_of own n right.form in
       let (tys, t, s) = left_sound p term left (nil_left first twice e2) (meets_left a (flat_map (defined own p term) left) _ meets) in
-      let (ts, u, r) = right_sound right n (below_demanded p _ j e3) (meets_right a (flat_map (defined own p term) left) _ meets) (all_left (Demanded k) (inside right) [] d) in
+      let (ts, u, r) = right_sound right n (below_demanded p _ j e3) (meets_right a (flat_map (defined own p term) left) _ meets) (all_left (Demanded k site) (inside right) [] d) in
       let pass = passed p (fits_left w (left_types w left)) j ts e3 u in
       let same_ts = same_types_is tys ts (subst (λ (o : Option (List Ty)). fits_left w o ts ≡ true) t pass) in
       (clock a term, ts, r, subst (SoundLeft k site (clock a term) left) same_ts s)
-  part_sound (Switch p on cases) n small e meets d met = switch_sound p on cases n e meets (all_left (Demanded k) (inside on) [] d) met
+  part_sound (Switch p on cases) n small e meets d met = switch_sound p on cases n e meets (all_left (Demanded k site) (inside on) [] d) met
   part_sound (Reset p every sets) n small e meets d met =
-      (condition_sound p every n e meets (all_left (Demanded k) (inside every) [] d) (nil_left (unmet_expr k.grade every) _ met), defined_outside k.grade seen sets (nil_right (unmet_expr k.grade every) _ met))
+      (condition_sound p every n e meets (all_left (Demanded k site) (inside every) [] d) (nil_left (unmet_expr k.grade every) _ met), defined_outside k.grade seen sets (nil_right (unmet_expr k.grade every) _ met))
   part_sound (Automaton p cases) n small e meets d met = cases_sound cases (nil_right _ (gap_faults w cases) e) meets met
   part_sound (Transition strong_one states t) n small e meets d met =
       let demand = demanded w t.place.0 (is_bool w) (judge_of w false t.condition) in
-      (condition_sound t.place.0 t.condition n (nil_left demand _ e) meets (all_left (Demanded k) (inside t.condition) [] d) met, not_true _ (no_fault t.place.0 UnknownName _ (nil_right demand _ e)))
+      (condition_sound t.place.0 t.condition n (nil_left demand _ e) meets (all_left (Demanded k site) (inside t.condition) [] d) met, not_true _ (no_fault t.place.0 UnknownName _ (nil_right demand _ e)))

@@ -18,7 +18,7 @@ use Rattle.hept_ast.specs.declared.tree.Plain.TheVariants.{Int, Bool as Truth_va
 use Rattle.hept_ast.specs.declared.tree.Equation.{Equation, Define, Switch', Reset', Automaton', Row_of-Equation, end_of-Equation, more_of-Equation, Row_of-Branch, end_of-Branch, more_of-Branch, Row_of-Block, end_of-Block, more_of-Block, Row_of-State, end_of-State, more_of-State}
 use Rattle.hept_ast.proofs.Unfolded.{static}
 use Rattle.hept_ast.specs.TypedValues.{HaveConstructors}
-use Rattle.accepted_meaning.proofs.StaticLists.{not_nil}
+use Rattle.sound_expressions.proofs.Lists.{not_nil}
 
 -- ---- what holds of all declarations of all parts holds of those around each part
 

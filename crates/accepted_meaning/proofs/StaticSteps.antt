@@ -13,10 +13,12 @@ use Rattle.hept_ast.specs.declared.tree.Decl.{Decl}
 use Rattle.hept_ast.specs.declared.tree.Expr.{Expr}
 use Rattle.hept_ast.specs.declared.tree.Ty.{Ty}
 use Rattle.hept_ast.specs.declared.tree.Form.{out-Form}
-use Rattle.accepted_meaning.specs.Sound.{Within, Sees, Sound, is_constant, is_async_constant, is_variable, is_last, is_unary, is_binary, is_if, is_fby, is_pre, is_arrow, is_when, is_merge, is_call, is_async_call, is_get}
-use Rattle.accepted_meaning.specs.SoundNodes.{AreSeenBeside, AreStepsSeen, IsSeenBeside, NamesDiffer, SoundPart}
+use Rattle.sound_expressions.specs.Sound.{Within, Sees, Sound, is_constant, is_async_constant, is_variable, is_last, is_unary, is_binary, is_if, is_fby, is_pre, is_arrow, is_when, is_merge, is_call, is_async_call, is_get}
+use Rattle.accepted_meaning.specs.SoundNodes.{AreSeenBeside, AreStepsSeen, IsSeenBeside, SoundPart}
+use Rattle.sound_expressions.specs.Demands.{NamesDiffer}
 use Rattle.accepted_meaning.proofs.StaticKept.{AllUsed, kept, kept_short, kept_step, none_dropped, same_clock, same_clock_is, same_clock_self}
-use Rattle.accepted_meaning.proofs.StaticExpressions.{assigned, meets_left, meets_right}
+use Rattle.sound_expressions.proofs.Expressions.{meets_left, meets_right}
+use Rattle.sound_expressions.specs.Demands.{assigned}
 use Rattle.accepted_meaning.proofs.StaticInside.{SoundAt, part_inside}
 use Rattle.accepted_meaning.proofs.StaticConditions.{Are, CondIn, Ok, Range, StepIn, TermIn, interface, part_in}
 use Rattle.accepted_meaning.proofs.StaticGroups.{IsPeaked, parts_peaked, peak, peak_in, peak_of}

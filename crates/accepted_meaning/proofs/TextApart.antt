@@ -15,8 +15,8 @@ use Rattle.hept_ast.specs.declared.tree.Expr.{Expr}
 use Rattle.hept_ast.specs.declared.tree.Node.{Node}
 use Rattle.hept_ast.specs.declared.tree.Equation.{Equation, out-Equation}
 use Rattle.hept_ast.specs.declared.tree.Equation.TheOpen.{Equation-F}
-use Rattle.accepted_meaning.specs.Sound.{Within}
-use Rattle.accepted_meaning.specs.SoundNodes.{NamesDiffer}
+use Rattle.sound_expressions.specs.Sound.{Within}
+use Rattle.sound_expressions.specs.Demands.{NamesDiffer}
 use Rattle.accepted_meaning.specs.Placing.{IsPlaced, at_top, at_call, at_branch, at_reset, at_state, site_of}
 use Rattle.accepted_meaning.specs.Running.{Run, StandsIn, setting_of, text_run}
 use Rattle.accepted_meaning.specs.Structure.{IsNotLocal, NotLocalInBranch, NotLocalInBody, NotLocalInState, SeesInBranch, SeesInBody, SeesInState}

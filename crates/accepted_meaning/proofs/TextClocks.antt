@@ -13,8 +13,9 @@ use Rattle.hept_ast.specs.declared.tree.State.{State}
 use Rattle.hept_ast.specs.declared.tree.Node.{Node}
 use Rattle.hept_ast.specs.declared.tree.Equation.{Equation, out-Equation}
 use Rattle.hept_ast.specs.declared.tree.Equation.TheOpen.{Equation-F}
-use Rattle.accepted_meaning.specs.Sound.{Within, Sees}
-use Rattle.accepted_meaning.specs.SoundNodes.{AreSeenBeside, IsSeenBeside, NamesDiffer}
+use Rattle.sound_expressions.specs.Sound.{Within, Sees}
+use Rattle.accepted_meaning.specs.SoundNodes.{AreSeenBeside, IsSeenBeside}
+use Rattle.sound_expressions.specs.Demands.{NamesDiffer}
 use Rattle.accepted_meaning.specs.Placing.{site_of}
 use Rattle.accepted_meaning.specs.Running.{Run, StandsIn}
 use Rattle.accepted_meaning.specs.Structure.{defined_in}

@@ -24,7 +24,8 @@ use Rattle.hept_ast.specs.declared.tree.Form.{out-Form}
 use Rattle.hept_ast.specs.declared.tree.Form.TheOpen.{Form-F}
 use Rattle.hept_ast.specs.declared.tree.Form.TheViews.{out-roll-Form}
 use Rattle.hept_ast.specs.declared.tree.Const.TheVariants.{Number}
-use Rattle.accepted_meaning.specs.Ranges.{FitsForm, FitsInit, HasLeft, IsInRange}
+use Rattle.accepted_meaning.specs.Ranges.{FitsInit, HasLeft, IsInRange}
+use Rattle.sound_expressions.specs.Demands.{FitsForm}
 use Rattle.accepted_meaning.proofs.TextLists.{no_some, same_some}
 
 abbrev x : Name

@@ -13,7 +13,7 @@ use Rattle.hept_ast.specs.declared.tree.MergeBranch.{MergeBranch}
 use Rattle.hept_ast.specs.declared.tree.Ty.{Ty}
 use Rattle.hept_ast.specs.declared.tree.Form.{Form, out-Form}
 use Rattle.hept_ast.specs.declared.tree.Form.TheOpen.{Form-F}
-use Rattle.accepted_meaning.specs.Sound.{Within}
+use Rattle.sound_expressions.specs.Sound.{Within}
 use Rattle.accepted_meaning.specs.SoundNodes.{SoundLeft, SoundProgram, no_left, a_left}
 use Rattle.accepted_meaning.specs.Placing.{site_of}
 use Rattle.accepted_meaning.specs.Running.{Run, StandsIn, setting_of, text_run}

@@ -23,7 +23,7 @@ use Rattle.hept_ast.specs.declared.tree.Form.{Form, out-Form}
 use Rattle.hept_ast.specs.declared.tree.Form.TheOpen.{Form-F}
 use Rattle.hept_ast.specs.declared.tree.Equation.{Equation, out-Equation}
 use Rattle.hept_ast.specs.declared.tree.Equation.TheOpen.{Equation-F}
-use Rattle.accepted_meaning.specs.Sound.{Within, Sound, SoundArguments, SoundBranches, is_constant, is_async_constant, is_variable, is_last, is_unary, is_binary, is_if, is_fby, is_pre, is_arrow, is_when, is_merge, is_call, is_async_call, is_get, no_arguments, an_argument, a_branch}
+use Rattle.sound_expressions.specs.Sound.{Within, Sound, SoundArguments, SoundBranches, is_constant, is_async_constant, is_variable, is_last, is_unary, is_binary, is_if, is_fby, is_pre, is_arrow, is_when, is_merge, is_call, is_async_call, is_get, no_arguments, an_argument, a_branch}
 use Rattle.accepted_meaning.specs.SoundNodes.{SoundLeft, SoundNode, SoundProgram, no_left, a_left, within}
 use Rattle.accepted_meaning.specs.Placing.{IsPlaced, at_top, at_call, at_branch, at_reset, site_of}
 use Rattle.accepted_meaning.specs.Running.{Run, StandsIn, setting_of, text_run}

@@ -14,7 +14,7 @@ use Rattle.hept_ast.specs.declared.tree.Escape.{Escape}
 use Rattle.hept_ast.specs.declared.tree.Expr.{Expr}
 use Rattle.hept_ast.specs.declared.tree.Equation.{Equation, out-Equation}
 use Rattle.hept_ast.specs.declared.tree.Equation.TheOpen.{Equation-F}
-use Rattle.accepted_meaning.specs.Sound.{Within}
+use Rattle.sound_expressions.specs.Sound.{Within}
 use Rattle.accepted_meaning.specs.Placing.{site_of}
 use Rattle.accepted_meaning.specs.Running.{Run, StandsIn}
 use Rattle.accepted_meaning.specs.Structure.{IsEquationOf}

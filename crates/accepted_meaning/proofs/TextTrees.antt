@@ -14,10 +14,10 @@ use Rattle.hept_ast.specs.declared.tree.Escape.{Escape}
 use Rattle.hept_ast.specs.declared.tree.Expr.{Expr}
 use Rattle.hept_ast.specs.declared.tree.Equation.{Equation, out-Equation}
 use Rattle.hept_ast.specs.declared.tree.Equation.TheOpen.{Equation-F}
-use Rattle.accepted_meaning.specs.SoundNodes.{NamesDiffer}
+use Rattle.sound_expressions.specs.Demands.{NamesDiffer}
 use Rattle.accepted_meaning.specs.Placing.{site_of}
 use Rattle.accepted_meaning.proofs.FitsTexts.{parts_are, parts_view}
-use Rattle.accepted_meaning.proofs.StaticValues.{differ_left, differ_right, not_in_first}
+use Rattle.sound_expressions.proofs.Values.{differ_left, differ_right, not_in_first}
 use Rattle.accepted_meaning.proofs.TextApart.{block_declares, declared_append, declared_by, inside, rest_of, state_site}
 use Rattle.accepted_meaning.proofs.TextLists.{contains_cases, contains_none, is_in_flat, is_in_left, is_in_right}
 

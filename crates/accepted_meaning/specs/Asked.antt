@@ -5,7 +5,7 @@ use Rattle.hept_ast.specs.Scopes.{Clock, Scope, Top, Called, In_branch, In_body,
 use Rattle.hept_ast.specs.declared.tree.Decl.{Decl}
 use Rattle.hept_ast.specs.declared.tree.Expr.{Expr}
 use Rattle.hept_ast.specs.declared.tree.Block.{Block}
-use Rattle.accepted_meaning.specs.Sound.{Within, Sees}
+use Rattle.sound_expressions.specs.Sound.{Within, Sees}
 use Rattle.accepted_meaning.specs.Placing.{site_of}
 use Rattle.accepted_meaning.specs.Running.{Run, StandsIn}
 use Rattle.accepted_meaning.specs.Structure.{IsCallIn}

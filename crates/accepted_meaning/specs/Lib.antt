@@ -1,5 +1,4 @@
 pub mod Ranges
-pub mod Sound
 pub mod SoundNodes
 pub mod Placing
 pub mod Running

@@ -17,7 +17,7 @@ use Rattle.hept_ast.specs.declared.tree.Equation.{Equation, out-Equation}
 use Rattle.hept_ast.specs.declared.tree.Equation.TheOpen.{Equation-F}
 use Rattle.hept_ast.specs.declared.tree.Form.{out-Form}
 use Rattle.hept_ast.specs.declared.name.Place.{Place}
-use Rattle.accepted_meaning.specs.Sound.{Sound}
+use Rattle.sound_expressions.specs.Sound.{Sound}
 use Rattle.accepted_meaning.specs.SoundNodes.{SoundNode, within}
 use Rattle.hept_ast.specs.TypedValues.{AreValuesOf}
 

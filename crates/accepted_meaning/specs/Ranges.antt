@@ -4,16 +4,9 @@ use Rattle.std.specs.Prelude.{[], All, Option, Some, None}
 use Rattle.hept_ast.specs.Parts.{Part, Plain, expressions, parts, variables}
 use Rattle.hept_ast.specs.declared.tree.Program.{Program}
 use Rattle.hept_ast.specs.declared.tree.Init.{Init}
-use Rattle.hept_ast.specs.declared.tree.Expr.{Expr}
-use Rattle.hept_ast.specs.declared.tree.MergeBranch.{MergeBranch}
-use Rattle.hept_ast.specs.declared.tree.Form.{Form, out-Form}
-use Rattle.hept_ast.specs.declared.tree.Form.TheOpen.{Form-F}
+use Rattle.hept_ast.specs.declared.tree.Form.{out-Form}
 use Rattle.hept_ast.specs.TypedValues.{FitsConst, HaveConstructors}
-
-abbrev pub FitsForm : Form-F Form Expr MergeBranch → Type 0
-FitsForm (Form-F.Const v) = FitsConst v
-FitsForm (Form-F.AsyncConst v) = FitsConst v
-FitsForm _ = Unit {0}
+use Rattle.sound_expressions.specs.Demands.{FitsForm}
 
 abbrev pub FitsInit : Option Init → Type 0
 FitsInit None = Unit {0}

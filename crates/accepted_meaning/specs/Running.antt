@@ -18,7 +18,7 @@ use Rattle.hept_ast.specs.declared.tree.Equation.{Equation, out-Equation}
 use Rattle.hept_ast.specs.declared.tree.Equation.TheOpen.{Equation-F}
 use Rattle.hept_ast.specs.declared.name.Place.{Place}
 use Rattle.hept_ast.specs.TypedValues.{IsValueOf, RowsFit}
-use Rattle.accepted_meaning.specs.Sound.{Within, Sees, Sound}
+use Rattle.sound_expressions.specs.Sound.{Within, Sees, Sound}
 use Rattle.accepted_meaning.specs.SoundNodes.{SoundNode, SoundProgram, within}
 use Rattle.accepted_meaning.specs.Placing.{IsPlaced, RepliesFit, site_of}
 

@@ -1,6 +1,6 @@
 -- What the parts of a node of an accepted program are like.
 use Rattle.std.specs.Prelude.{◌≡◌, ◌⊎◌, ℕ, ⊤, true, false, List, [], ◌∷◌, ◌++◌, map, Contains, Option, Some, None, is_some, slice_get}
-use Rattle.std.specs.List.{flat_map, list_any}
+use Rattle.std.specs.List.{flat_map}
 use Rattle.hept_ast.specs.Texts.{Name, is_in, names}
 use Rattle.hept_ast.specs.Scopes.{Clock}
 use Rattle.hept_ast.specs.Parts.{Case, Part, Block, Plain, Switch, Reset, Automaton, Transition, Placed, Surroundings, parts, seen_at, declaration, variables}
@@ -9,7 +9,7 @@ use Rattle.hept_ast.specs.Initial.{Grades, grade, AreGrades}
 use Rattle.hept_ast.specs.Causal.{HasNoCycle, Reads}
 use Rattle.hept_ast.specs.ClockMaps.{clock_in}
 use Rattle.hept_ast.specs.Stages.{ClockedProgram}
-use Rattle.hept_ast.specs.Types.{Plain_type, bool, has_tags, same_tag, type_of_const}
+use Rattle.hept_ast.specs.Types.{Plain_type, bool, has_tags, type_of_const}
 use Rattle.hept_ast.specs.declared.tree.Node.{Node}
 use Rattle.hept_ast.specs.declared.tree.Decl.{Decl}
 use Rattle.hept_ast.specs.declared.tree.Init.{Init}
@@ -18,7 +18,8 @@ use Rattle.hept_ast.specs.declared.tree.Tag.{Tag}
 use Rattle.hept_ast.specs.declared.tree.Ty.{Ty}
 use Rattle.hept_ast.specs.declared.tree.Ty.TheVariants as ty
 use Rattle.hept_ast.specs.TypedValues.{FitsConst}
-use Rattle.accepted_meaning.specs.Sound.{Within, Sees, Sound, IsTagOf, AreAllTags}
+use Rattle.sound_expressions.specs.Demands.{NamesDiffer, NoTagTwice}
+use Rattle.sound_expressions.specs.Sound.{Within, Sees, Sound, IsTagOf, AreAllTags}
 
 -- the constant of a `last` declaration is one of its type; the variable is on the base clock and is never undefined
 pub record SoundLast (k : Within) (d : Decl) (i : Init) : Type 0 where
@@ -53,11 +54,6 @@ abbrev pub AreSoundCases : {A : Type 0} → Within → Surroundings → List (Ca
 AreSoundCases k site cases =
     ((x : Name) (d : Decl) → is_in x (all_sets cases) ≡ true → declaration (seen_at k.node site) x ≡ Some d → (k.clock x ≡ []) × (k.grade x ≡ false)) × HasNoGap k site cases
 
--- no tag stands twice
-abbrev pub NoTagTwice : List Tag → Type 0
-NoTagTwice [] = ⊤
-NoTagTwice (t ∷ ts) = (list_any (same_tag t) ts ≡ false) × NoTagTwice ts
-
 pub record SoundSwitch (k : Within) (site : Surroundings) (on : Expr) (cases : List (Case Tag)) : Type 0 where
   pub type : Ty
   pub sound : Sound k site on [] (type ∷ [])
@@ -79,11 +75,6 @@ SoundPart k site (Switch p on cases) = SoundSwitch k site on cases
 SoundPart k site (Reset p every sets) = SoundCondition k site every × ((x : Name) (d : Decl) → is_in x sets ≡ true → declaration (seen_at k.node site) x ≡ Some d → k.grade x ≡ false)
 SoundPart k site (Automaton p cases) = AreSoundCases k site cases
 SoundPart k site (Transition strong states e) = SoundCondition k site e.condition × (is_in e.target states ≡ true)
-
--- no name stands twice
-abbrev pub NamesDiffer : List Name → Type 0
-NamesDiffer [] = ⊤
-NamesDiffer (x ∷ xs) = (is_in x xs ≡ false) × NamesDiffer xs
 
 -- an input or output is on the base clock and never undefined
 abbrev pub SoundInterface : Within → Decl → Type 0

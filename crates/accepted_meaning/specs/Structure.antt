@@ -31,7 +31,7 @@ use Rattle.hept_ast.specs.declared.tree.Form.TheOpen.{Form-F}
 use Rattle.hept_ast.specs.Stages.{ClockedProgram}
 use Rattle.hept_ast.specs.declared.name.Place.{Place}
 use Rattle.hept_ast.specs.TypedValues.{FitsConst, IsValueOf, RowsFit, plain_count}
-use Rattle.accepted_meaning.specs.Sound.{AreAllTags, IsTagOf, Sees, Sound, SoundArguments, Within, branch_tags}
+use Rattle.sound_expressions.specs.Sound.{AreAllTags, IsTagOf, Sees, Sound, SoundArguments, Within, branch_tags}
 use Rattle.accepted_meaning.specs.SoundNodes.{SoundPart}
 use Rattle.accepted_meaning.specs.Placing.{site_of}
 use Rattle.accepted_meaning.specs.Running.{IsNodeOf, Run, StandsIn, setting_of}

@@ -6,7 +6,7 @@ use Rattle.std.proofs.lemmas.Bool.{false≢true}
 use Rattle.std.proofs.lemmas.Bool.Decides.{nat_tests}
 use Rattle.std.proofs.lemmas.Option.{slice_get_read}
 use Rattle.std.proofs.lemmas.List.{drop_more}
-use Rattle.accepted_meaning.proofs.StaticLists.{same_is}
+use Rattle.sound_expressions.proofs.Lists.{same_is}
 use Rattle.hept_ast.specs.Texts.{Name, branch_of, is_in, place_in, same}
 use Rattle.hept_ast.specs.Scopes.{Clock, Scope, In_branch, In_body, In_state, Text, block_of}
 use Rattle.hept_ast.specs.Meaning.{Gives, Output, Defined, Last, Active_state, Rule, answer_to, block_rule, branch_rule, clock_seen, defined_rule, equation_rule}

@@ -39,7 +39,7 @@ module _ (core other : Core) (well : IsWellFormed core) (n : IsNaming core other
 
   -- ---- equations of a node
 
-  names_new : (m : CoreNode) → Contains core.nodes m → (e : CoreEquation) → Contains m.equations e → (is_in n.x (mentions e.right) ≡ false) × (is_in n.x e.left ≡ false) × (is_in n.x e.resets ≡ false)
+  pub names_new : (m : CoreNode) → Contains core.nodes m → (e : CoreEquation) → Contains m.equations e → (is_in n.x (mentions e.right) ≡ false) × (is_in n.x e.left ≡ false) × (is_in n.x e.resets ≡ false)
   names_new m c e d =
       let is_new = node_name_new core n.x n.new.fresh m c in
       let q = equation_name_new n.x m is_new e d in (
@@ -70,7 +70,7 @@ module _ (core other : Core) (well : IsWellFormed core) (n : IsNaming core other
 
   -- ---- the node with the new variable
 
-  with_others : (P : CoreEquation → Type 0) → Each P n.node.equations → P changed → P new → All P n.moved.equations
+  pub with_others : (P : CoreEquation → Type 0) → Each P n.node.equations → P changed → P new → All P n.moved.equations
   with_others P h c k =
       let all : Each P (n.step.front ++ old ∷ n.step.back) = subst (λ (l : List CoreEquation). Each P l) n.step.equations h in
       subst (λ (l : List CoreEquation). All P l) (sym n.step.others)

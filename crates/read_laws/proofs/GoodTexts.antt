@@ -25,7 +25,8 @@ use Rattle.hept_ast.specs.declared.tree.Equation.{Equation}
 use Rattle.hept_ast.proofs.FormsOf.{below-Const, below-Var, below-Last, below-Unary, below-Binary, below-If, below-Fby, below-Pre, below-Arrow, below-When, below-Merge, below-Call, below-AsyncCall, below-AsyncConst, below-Get}
 use Rattle.hept_ast.proofs.InnerParts.{inner-Define, inner-Switch, inner-Reset, inner-Automaton}
 use Rattle.hept_ast.specs.TypedValues.{FitsConst}
-use Rattle.accepted_meaning.specs.Ranges.{FitsForm, FitsInit, HasLeft}
+use Rattle.accepted_meaning.specs.Ranges.{FitsInit, HasLeft}
+use Rattle.sound_expressions.specs.Demands.{FitsForm}
 use Rattle.read_laws.proofs.FormPlaces.{out_const, out_var, out_last, out_unary, out_binary, out_if, out_fby, out_pre, out_arrow, out_when, out_merge, out_call, out_async_call, out_async_const, out_get}
 
 -- ---- lists

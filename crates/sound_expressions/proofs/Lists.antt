@@ -12,7 +12,7 @@ use Rattle.hept_ast.specs.declared.tree.Tag.TheVariants as tag
 use Rattle.hept_ast.specs.declared.tree.Ty.{Ty}
 use Rattle.hept_ast.specs.declared.tree.Ty.TheVariants as ty
 use Rattle.hept_ast.specs.declared.tree.Plain.TheVariants.{Int, Bool as Truth_value, Named}
-use Rattle.accepted_meaning.specs.SoundNodes.{NamesDiffer, NoTagTwice}
+use Rattle.sound_expressions.specs.Demands.{NamesDiffer, NoTagTwice}
 
 -- ---- empty lists
 

@@ -13,7 +13,7 @@ use Rattle.hept_ast.specs.declared.tree.BinaryOp.TheVariants as op
 use Rattle.hept_ast.specs.declared.tree.Ty.{Ty}
 use Rattle.hept_ast.specs.declared.tree.Ty.TheVariants as ty
 use Rattle.hept_ast.proofs.JudgeOf.{judge_of, one}
-use Rattle.accepted_meaning.proofs.StaticLists.{not_nil, nil_left, nil_right}
+use Rattle.sound_expressions.proofs.Lists.{not_nil, nil_left, nil_right}
 
 -- ---- what is judged without faults
 

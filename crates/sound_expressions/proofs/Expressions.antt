@@ -8,9 +8,9 @@ use Rattle.hept_ast.specs.Texts.{Name, is_in}
 use Rattle.hept_ast.specs.Scopes.{Clock}
 use Rattle.hept_ast.specs.Parts.{Surroundings, seen_at, declaration, inside}
 use Rattle.hept_ast.specs.Clocks.{Assignment, Base, Condition, Inner, Meets, Of, On, Term, clock, equal, expression, outer_read, own_names, read_clock, reading, term_of, unless}
-use Rattle.hept_ast.specs.Initial.{grade, unmet, unmet_by}
+use Rattle.hept_ast.specs.Initial.{grade, unmet}
 use Rattle.hept_ast.specs.Types.{Fit, Fits, Misfit, Plain_type, Untyped, alike, async_fit, binary_fit, call_fit, divides, get_fit, has_tags, if_fit, is_plain, same_tag, same_type, tags_of, type_of_const, type_of_tag, types_of, unary_fit}
-use Rattle.hept_ast.specs.Faults.{Fault, Judged, Judging, NestedAsync, Recursive, UnknownName, ZeroDivisor, Duplicate, NotDefined, barred, both, branch_fit, call_judged, called, called_async, calls_lead, calls_of, const_judged, fault, is_nonzero, judge, judged, lack_faults, last_judged, merge_fit, nested, node_named, read_faults, tag_fits, type_of_variable, unknown_tag, unknown_variable, var_judged, when_fit, with_own}
+use Rattle.hept_ast.specs.Faults.{Fault, Judged, Judging, NestedAsync, Recursive, UnknownName, ZeroDivisor, Duplicate, NotDefined, barred, both, branch_fit, call_judged, calls_lead, calls_of, const_judged, fault, is_nonzero, judge, judged, lack_faults, last_judged, merge_fit, nested, node_named, read_faults, tag_fits, type_of_variable, unknown_tag, unknown_variable, var_judged, when_fit, with_own}
 use Rattle.hept_ast.specs.declared.name.Place.{Place}
 use Rattle.hept_ast.specs.declared.tree.Const.{Const as Constant}
 use Rattle.hept_ast.specs.declared.tree.UnaryOp.{UnaryOp}
@@ -22,37 +22,18 @@ use Rattle.hept_ast.specs.declared.tree.Ty.{Ty}
 use Rattle.hept_ast.specs.declared.tree.Ty.TheVariants as ty
 use Rattle.hept_ast.specs.declared.tree.Expr.{Expr}
 use Rattle.hept_ast.specs.declared.tree.MergeBranch.{MergeBranch}
-use Rattle.hept_ast.specs.declared.tree.Form.{Form, out-Form, roll-Form}
+use Rattle.hept_ast.specs.declared.tree.Form.{Form, roll-Form}
 use Rattle.hept_ast.specs.declared.tree.Form.TheOpen.{Form-F}
 use Rattle.hept_ast.specs.declared.tree.Form.TheVariants as form
 use Rattle.hept_ast.proofs.JudgeOf.{judge_of, one, row, branch_row, judge-Const, judge-Var, judge-Last, judge-Unary, judge-Binary, judge-If, judge-Fby, judge-Pre, judge-Arrow, judge-When, judge-Merge, judge-Call, judge-AsyncCall, judge-AsyncConst, judge-Get}
 use Rattle.hept_ast.proofs.FormsOf.{below-Unary, below-Binary, below-If, below-Fby, below-Pre, below-Arrow, below-When, below-Merge, below-Call, below-AsyncCall, below-Get}
 use Rattle.hept_ast.proofs.ConditionsOf.{operand, operand_list, branch_list, conditions-Var, conditions-Last, conditions-Unary, conditions-Binary, conditions-If, conditions-Fby, conditions-Pre, conditions-Arrow, conditions-When, conditions-Merge, conditions-Call, conditions-AsyncCall, conditions-Get}
 use Rattle.hept_ast.proofs.CalledForms.{called-Call, called-AsyncCall, called_async-AsyncCall}
-use Rattle.accepted_meaning.specs.Ranges.{FitsForm}
-use Rattle.accepted_meaning.specs.Sound.{Within, Sees, IsTagOf, AreAllTags, branch_tags, Sound, SoundArguments, SoundBranches, no_arguments, an_argument, no_branches, a_branch, is_constant, is_async_constant, is_variable, is_last, is_unary, is_binary, is_if, is_fby, is_pre, is_arrow, is_when, is_merge, is_call, is_async_call, is_get}
-use Rattle.accepted_meaning.proofs.StaticLists.{not_nil, nil_left, nil_right, no_fault, any_false}
-use Rattle.accepted_meaning.proofs.StaticForms.{EachOf, EachValue, EachOperand, by_operands, unmet_list, unmet_values, unmet_Fby, unmet_Pre, unmet_When, unmet_Merge, unmet_Call, unmet_AsyncCall, term_Var, term_Last, term_Unary, term_Binary, term_If, term_Fby, term_Pre, term_Arrow, term_When, term_Merge, term_Call, term_AsyncCall, term_Get, out_Const, out_Var, out_Last, out_Unary, out_Binary, out_If, out_Fby, out_Pre, out_Arrow, out_When, out_Merge, out_Call, out_AsyncCall, out_AsyncConst, out_Get}
-use Rattle.accepted_meaning.proofs.StaticJudged.{clean, typed, unary_typed, binary_typed, alike_typed, if_fit_typed, call_typed, async_typed, get_typed, barred_typed, barred_fits, one_faults, one_types, both_types, with_types}
-
--- ---- what is asked of an expression
-
-abbrev pub judging_at : Within → Surroundings → Bool → Judging
-judging_at k site strong = record { types = k.types; nodes = k.nodes; node = k.node; seen = seen_at k.node site; strong = strong }
-
-abbrev pub assigned : Within → (ℕ → Clock) → Assignment
-assigned k numbers = record { variable = k.clock; expression = numbers }
-
--- the demands of an expression are met, its constant fits, the node that it calls is one that its node calls, and async calls give no futures
-pub record Demanded (k : Within) (e : Expr) : Type 0 where
-  pub met : unmet_by k.grade e.place.0 e.form ≡ []
-  pub made : All (λ f. is_in f (calls_of (Some k.node)) ≡ true) (called e.form)
-  pub number : FitsForm (out-Form e.form)
-  pub plain : All (λ f. (g : Node) → node_named k.nodes f ≡ Some g → list_all is_plain (types_of g.outputs) ≡ true) (called_async e.form)
-
--- each type with tags of a variable that is seen at a site has a tag
-pub record SeenHaveTags (k : Within) (site : Surroundings) : Type 0 where
-  pub some : (x : Name) (d : Decl) → declaration (seen_at k.node site) x ≡ Some d → has_tags d.ty ≡ true → tags_of k.types d.ty ≡ [] → ⊥
+use Rattle.sound_expressions.specs.Demands.{Demanded, FitsForm, assigned, judging_at}
+use Rattle.sound_expressions.specs.Sound.{Within, Sees, IsTagOf, AreAllTags, branch_tags, Sound, SoundArguments, SoundBranches, no_arguments, an_argument, no_branches, a_branch, is_constant, is_async_constant, is_variable, is_last, is_unary, is_binary, is_if, is_fby, is_pre, is_arrow, is_when, is_merge, is_call, is_async_call, is_get}
+use Rattle.sound_expressions.proofs.Lists.{not_nil, nil_left, nil_right, no_fault, any_false}
+use Rattle.sound_expressions.proofs.Forms.{EachOf, EachValue, EachOperand, by_operands, unmet_list, unmet_values, unmet_Fby, unmet_Pre, unmet_When, unmet_Merge, unmet_Call, unmet_AsyncCall, term_Var, term_Last, term_Unary, term_Binary, term_If, term_Fby, term_Pre, term_Arrow, term_When, term_Merge, term_Call, term_AsyncCall, term_Get, out_Const, out_Var, out_Last, out_Unary, out_Binary, out_If, out_Fby, out_Pre, out_Arrow, out_When, out_Merge, out_Call, out_AsyncCall, out_AsyncConst, out_Get}
+use Rattle.sound_expressions.proofs.Judged.{clean, typed, unary_typed, binary_typed, alike_typed, if_fit_typed, call_typed, async_typed, get_typed, barred_typed, barred_fits, one_faults, one_types, both_types, with_types}
 
 -- ---- small facts
 
@@ -137,9 +118,9 @@ same_fits us ts e = cc
 
 -- ---- forms
 
-module _ (k : Within) (site : Surroundings) (strong : Bool) (numbers : ℕ → Clock) (tagged : SeenHaveTags k site) where
+module _ (k : Within) (site : Surroundings) (strong : Bool) (judged_node : Node) (alike_name : judged_node.name ≡ k.node.name) (numbers : ℕ → Clock) where
   abbrev pub w : Judging
-  w = judging_at k site strong
+  w = judging_at k site strong judged_node
 
   abbrev pub a : Assignment
   a = assigned k numbers
@@ -149,11 +130,11 @@ module _ (k : Within) (site : Surroundings) (strong : Bool) (numbers : ℕ → C
 
   -- types and clock, by the number that the expression has
   abbrev pub SoundHere : Expr → Type 0
-  SoundHere e = (under : Bool) (n : ℕ) → (judge_of w under e).faults ≡ [] → Meets a (expression own n e.place.0 e.form) → All (Demanded k) (inside e) →
+  SoundHere e = (under : Bool) (n : ℕ) → (judge_of w under e).faults ≡ [] → Meets a (expression own n e.place.0 e.form) → All (Demanded k site) (inside e) →
       (ts : List Ty) × ((judge_of w under e).types ≡ Some ts) × Sound k site e (clock a (term_of own n e.form)) ts
 
   -- an operand on a clock
-  operand_sound : (e : Expr) → SoundHere e → (under : Bool) (p : ℕ) (on : Term) (m : ℕ) → (one w under e).faults ≡ [] → Meets a (operand own p on m e) → All (Demanded k) (inside e) →
+  operand_sound : (e : Expr) → SoundHere e → (under : Bool) (p : ℕ) (on : Term) (m : ℕ) → (one w under e).faults ≡ [] → Meets a (operand own p on m e) → All (Demanded k site) (inside e) →
       (ts : List Ty) × ((one w under e).types ≡ Some (ts ∷ [])) × Sound k site e (clock a on) ts
   operand_sound e h under p on m f meets d =
       let (ts, t, s) = h under m (one_faults w under e f) meets.1 d in
@@ -184,7 +165,7 @@ module _ (k : Within) (site : Surroundings) (strong : Bool) (numbers : ℕ → C
       go : (o : Option Plain_type) → type_of_const k.types c ≡ o → (const_judged w p.0 o ty.Plain).faults ≡ [] →
           (ts : List Ty) × ((judge w under p.0 (form.Const c)).types ≡ Some ts) × Sound k site (record { place = p; form = form.Const c }) (clock a (term_of own n (form.Const c))) ts
       go None is f = absurd (not_nil _ _ f)
-      go (Some t) is f = (ty.Plain t ∷ [], ap (λ j. j.types) (judge-Const w under p.0 c) ∙ ap (λ o. (const_judged w p.0 o ty.Plain).types) is, is_constant (out_Const c) is (subst FitsForm (out_Const c) (All-head (Demanded k) _ _ d).number))
+      go (Some t) is f = (ty.Plain t ∷ [], ap (λ j. j.types) (judge-Const w under p.0 c) ∙ ap (λ o. (const_judged w p.0 o ty.Plain).types) is, is_constant (out_Const c) is (subst FitsForm (out_Const c) (All-head (Demanded k site) _ _ d).number))
 
   of_var : (x : Name) (p : Place) → SoundHere (record { place = p; form = form.Var x })
   of_var x p under n e meets d =
@@ -230,7 +211,7 @@ module _ (k : Within) (site : Surroundings) (strong : Bool) (numbers : ℕ → C
   of_unary op b p h under n e meets d =
       let f = sym (ap (λ t. t.faults) (judge-Unary w under p.0 op b)) ∙ e in
       let c = clean p.0 [] (one w false b) (unary_fit op) f in
-      let below_d = subst (All (Demanded k)) (below-Unary op b) (All-tail (Demanded k) _ _ d) in
+      let below_d = subst (All (Demanded k site)) (below-Unary op b) (All-tail (Demanded k site) _ _ d) in
       let (us, t, s) = operand_sound b h false p.0 (Inner n) (n + 1) c.operand_faults (subst (Meets a) (conditions-Unary own n p.0 op b) meets) below_d in
       let (ts, fits, gives) = typed p.0 [] (one w false b) (unary_fit op) (us ∷ []) f t (unary_typed op (us ∷ [])) in
       (ts, ap (λ j. j.types) (judge-Unary w under p.0 op b) ∙ gives, on_inner _ n ts (term_Unary own n op b) (is_unary (out_Unary op b) s fits))
@@ -240,8 +221,8 @@ module _ (k : Within) (site : Surroundings) (strong : Bool) (numbers : ℕ → C
       let fit = λ (ts : List (List Ty)). barred w (alike ts) in
       let f = sym (ap (λ t. t.faults) (judge-Pre w under p.0 b)) ∙ e in
       let c = clean p.0 [] (one w false b) fit f in
-      let below_d = subst (All (Demanded k)) (below-Pre b) (All-tail (Demanded k) _ _ d) in
-      let met = is_met _ _ (sym (unmet_Pre k.grade p.0 b) ∙ (All-head (Demanded k) _ _ d).met) in
+      let below_d = subst (All (Demanded k site)) (below-Pre b) (All-tail (Demanded k site) _ _ d) in
+      let met = is_met _ _ (sym (unmet_Pre k.grade p.0 b) ∙ (All-head (Demanded k site) _ _ d).met) in
       let (us, t, s) = operand_sound b h false p.0 (Inner n) (n + 1) c.operand_faults (subst (Meets a) (conditions-Pre own n p.0 b) meets) below_d in
       let (ts, fits, gives) = typed p.0 [] (one w false b) fit (us ∷ []) f t (barred_typed w (alike (us ∷ [])) (alike_typed us [])) in
       (ts, ap (λ j. j.types) (judge-Pre w under p.0 b) ∙ gives, on_inner _ n ts (term_Pre own n b) (is_pre (out_Pre b) s (barred_fits w (alike (us ∷ [])) ts fits) met))
@@ -251,7 +232,7 @@ module _ (k : Within) (site : Surroundings) (strong : Bool) (numbers : ℕ → C
       let fit = λ (ts : List (List Ty)). barred w (get_fit ts) in
       let f = sym (ap (λ t. t.faults) (judge-Get w under p.0 b)) ∙ e in
       let c = clean p.0 [] (one w true b) fit f in
-      let below_d = subst (All (Demanded k)) (below-Get b) (All-tail (Demanded k) _ _ d) in
+      let below_d = subst (All (Demanded k site)) (below-Get b) (All-tail (Demanded k site) _ _ d) in
       let (us, t, s) = operand_sound b h true p.0 (Inner n) (n + 1) c.operand_faults (subst (Meets a) (conditions-Get own n p.0 b) meets) below_d in
       let (ts, fits, gives) = typed p.0 [] (one w true b) fit (us ∷ []) f t (barred_typed w (get_fit (us ∷ [])) (get_typed us)) in
       (ts, ap (λ j. j.types) (judge-Get w under p.0 b) ∙ gives, on_inner _ n ts (term_Get own n b) (is_get (out_Get b) s (barred_fits w (get_fit (us ∷ [])) ts fits)))
@@ -271,16 +252,16 @@ module _ (k : Within) (site : Surroundings) (strong : Bool) (numbers : ℕ → C
           let (ts, fits, gives) = typed p.0 [] (const_judged w p.0 (type_of_const k.types c) ty.Future) (λ ts. barred w (Fits ts)) us f (ap (λ o. (const_judged w p.0 o ty.Future).types) is) (barred_typed w (Fits us) (fits_some us)) in (
             ts,
             ap (λ j. j.types) (judge-AsyncConst w under p.0 c) ∙ gives,
-            subst (λ vs. Sound k site (record { place = p; form = form.AsyncConst c }) (clock a (term_of own n (form.AsyncConst c))) vs) (same_fits us ts (barred_fits w (Fits us) ts fits)) (is_async_constant (out_AsyncConst c) is (subst FitsForm (out_AsyncConst c) (All-head (Demanded k) _ _ d).number)),
+            subst (λ vs. Sound k site (record { place = p; form = form.AsyncConst c }) (clock a (term_of own n (form.AsyncConst c))) vs) (same_fits us ts (barred_fits w (Fits us) ts fits)) (is_async_constant (out_AsyncConst c) is (subst FitsForm (out_AsyncConst c) (All-head (Demanded k site) _ _ d).number)),
           )
 
   -- two operands on a clock
   pair_sound : (b c : Expr) → SoundHere b → SoundHere c → (p : ℕ) (on : Term) (m : ℕ) → (both (one w false b) (one w false c)).faults ≡ [] →
-      Meets a (operand own p on m b ++ operand own p on (m + length (inside b)) c) → All (Demanded k) (inside b ++ inside c) →
+      Meets a (operand own p on m b ++ operand own p on (m + length (inside b)) c) → All (Demanded k site) (inside b ++ inside c) →
       (us : List Ty) × (vs : List Ty) × ((both (one w false b) (one w false c)).types ≡ Some (us ∷ vs ∷ [])) × Sound k site b (clock a on) us × Sound k site c (clock a on) vs
   pair_sound b c hb hc p on m f meets d =
-      let (us, t, s) = operand_sound b hb false p on m (nil_left _ _ f) (meets_left a (operand own p on m b) _ meets) (all_left (Demanded k) (inside b) (inside c) d) in
-      let (vs, u, r) = operand_sound c hc false p on (m + length (inside b)) (nil_right (one w false b).faults _ f) (meets_right a (operand own p on m b) _ meets) (all_right (Demanded k) (inside b) (inside c) d) in
+      let (us, t, s) = operand_sound b hb false p on m (nil_left _ _ f) (meets_left a (operand own p on m b) _ meets) (all_left (Demanded k site) (inside b) (inside c) d) in
+      let (vs, u, r) = operand_sound c hc false p on (m + length (inside b)) (nil_right (one w false b).faults _ f) (meets_right a (operand own p on m b) _ meets) (all_right (Demanded k site) (inside b) (inside c) d) in
       (us, vs, both_types (one w false b) (one w false c) (us ∷ []) (vs ∷ []) t u, s, r)
 
   of_binary : (op : BinaryOp) (b c : Expr) (p : Place) → SoundHere b → SoundHere c → SoundHere (record { place = p; form = form.Binary op b c })
@@ -288,7 +269,7 @@ module _ (k : Within) (site : Surroundings) (strong : Bool) (numbers : ℕ → C
       let f = sym (ap (λ t. t.faults) (judge-Binary w under p.0 op b c)) ∙ e in
       let own_faults = fault p.0 ZeroDivisor (divides op && not (is_nonzero b_form && true)) in
       let cl = clean p.0 own_faults (both (one w false b) (one w false c)) (binary_fit op) f in
-      let below_d = subst (All (Demanded k)) (below-Binary op b c) (All-tail (Demanded k) _ _ d) in
+      let below_d = subst (All (Demanded k site)) (below-Binary op b c) (All-tail (Demanded k site) _ _ d) in
       let (us, vs, t, s, r) = pair_sound b c hb hc p.0 (Inner n) (n + 1) cl.operand_faults (subst (Meets a) (conditions-Binary own n p.0 op b c) meets) below_d in
       let (ts, fits, gives) = typed p.0 own_faults (both (one w false b) (one w false c)) (binary_fit op) (us ∷ vs ∷ []) f t (binary_typed op us vs) in
       let nonzero = ap (λ z. divides op && not z) (sym (and_true (is_nonzero b_form))) ∙ no_fault p.0 ZeroDivisor _ cl.own_faults in
@@ -302,8 +283,8 @@ module _ (k : Within) (site : Surroundings) (strong : Bool) (numbers : ℕ → C
       let fit = λ (ts : List (List Ty)). barred w (alike ts) in
       let f = sym (ap (λ t. t.faults) (judge-Fby w under p.0 b c)) ∙ e in
       let cl = clean p.0 [] (both (one w false b) (one w false c)) fit f in
-      let below_d = subst (All (Demanded k)) (below-Fby b c) (All-tail (Demanded k) _ _ d) in
-      let met = is_met _ _ (sym (unmet_Fby k.grade p.0 b c) ∙ (All-head (Demanded k) _ _ d).met) in
+      let below_d = subst (All (Demanded k site)) (below-Fby b c) (All-tail (Demanded k site) _ _ d) in
+      let met = is_met _ _ (sym (unmet_Fby k.grade p.0 b c) ∙ (All-head (Demanded k site) _ _ d).met) in
       let (us, vs, t, s, r) = pair_sound b c hb hc p.0 (Inner n) (n + 1) cl.operand_faults (subst (Meets a) (conditions-Fby own n p.0 b c) meets) below_d in
       let fit_is = alike (us ∷ vs ∷ []) in
       let (ts, fits, gives) = typed p.0 [] (both (one w false b) (one w false c)) fit (us ∷ vs ∷ []) f t (barred_typed w fit_is (alike_typed us (vs ∷ []))) in
@@ -314,7 +295,7 @@ module _ (k : Within) (site : Surroundings) (strong : Bool) (numbers : ℕ → C
       let fit = λ (ts : List (List Ty)). barred w (alike ts) in
       let f = sym (ap (λ t. t.faults) (judge-Arrow w under p.0 b c)) ∙ e in
       let cl = clean p.0 [] (both (one w false b) (one w false c)) fit f in
-      let below_d = subst (All (Demanded k)) (below-Arrow b c) (All-tail (Demanded k) _ _ d) in
+      let below_d = subst (All (Demanded k site)) (below-Arrow b c) (All-tail (Demanded k site) _ _ d) in
       let (us, vs, t, s, r) = pair_sound b c hb hc p.0 (Inner n) (n + 1) cl.operand_faults (subst (Meets a) (conditions-Arrow own n p.0 b c) meets) below_d in
       let fit_is = alike (us ∷ vs ∷ []) in
       let (ts, fits, gives) = typed p.0 [] (both (one w false b) (one w false c)) fit (us ∷ vs ∷ []) f t (barred_typed w fit_is (alike_typed us (vs ∷ []))) in
@@ -325,13 +306,13 @@ module _ (k : Within) (site : Surroundings) (strong : Bool) (numbers : ℕ → C
       let f = sym (ap (λ t. t.faults) (judge-If w under p.0 i b c)) ∙ e in
       let others = both (one w false b) (one w false c) in
       let cl = clean p.0 [] (both (one w false i) others) if_fit f in
-      let below_d = subst (All (Demanded k)) (below-If i b c ∙ append_assoc (inside i) (inside b) (inside c)) (All-tail (Demanded k) _ _ d) in
+      let below_d = subst (All (Demanded k site)) (below-If i b c ∙ append_assoc (inside i) (inside b) (inside c)) (All-tail (Demanded k site) _ _ d) in
       let first = operand own p.0 (Inner n) (n + 1) i in
       let second = operand own p.0 (Inner n) (n + 1 + length (inside i)) b in
       let third = operand own p.0 (Inner n) (n + 1 + length (inside i) + length (inside b)) c in
       let m = subst (Meets a) (conditions-If own n p.0 i b c ∙ append_assoc first second third) meets in
-      let (is, ti, si) = operand_sound i hi false p.0 (Inner n) (n + 1) (nil_left _ _ cl.operand_faults) (meets_left a first _ m) (all_left (Demanded k) (inside i) _ below_d) in
-      let (us, vs, t, s, r) = pair_sound b c hb hc p.0 (Inner n) (n + 1 + length (inside i)) (nil_right (one w false i).faults _ cl.operand_faults) (meets_right a first _ m) (all_right (Demanded k) (inside i) _ below_d) in
+      let (is, ti, si) = operand_sound i hi false p.0 (Inner n) (n + 1) (nil_left _ _ cl.operand_faults) (meets_left a first _ m) (all_left (Demanded k site) (inside i) _ below_d) in
+      let (us, vs, t, s, r) = pair_sound b c hb hc p.0 (Inner n) (n + 1 + length (inside i)) (nil_right (one w false i).faults _ cl.operand_faults) (meets_right a first _ m) (all_right (Demanded k site) (inside i) _ below_d) in
       let (ts, fits, gives) = typed p.0 [] (both (one w false i) others) if_fit (is ∷ us ∷ vs ∷ []) f (both_types (one w false i) others (is ∷ []) (us ∷ vs ∷ []) ti t) (if_fit_typed is us (vs ∷ [])) in
       (ts, ap (λ j. j.types) (judge-If w under p.0 i b c) ∙ gives, on_inner _ n ts (term_If own n i b c) (is_if (out_If i b c) si s r fits))
 
@@ -348,8 +329,8 @@ module _ (k : Within) (site : Surroundings) (strong : Bool) (numbers : ℕ → C
       let known = no_fault p.0 UnknownName _ (nil_right (read_faults w p.0 x) _ cl.own_faults) in
       let type_is = ap (λ (o : Option Decl). option_map (λ d. d.ty) o) seen in
       let f = subst (λ (o : Option Ty). (judged p.0 own_faults (one w false b) (when_fit w tag o)).faults ≡ []) type_is f1 in
-      let below_d = subst (All (Demanded k)) (below-When b tag x) (All-tail (Demanded k) _ _ d) in
-      let met = is_met _ _ (sym (unmet_When k.grade p.0 b tag x) ∙ (All-head (Demanded k) _ _ d).met) in
+      let below_d = subst (All (Demanded k site)) (below-When b tag x) (All-tail (Demanded k site) _ _ d) in
+      let met = is_met _ _ (sym (unmet_When k.grade p.0 b tag x) ∙ (All-head (Demanded k site) _ _ d).met) in
       let m = subst (Meets a) (conditions-When own n p.0 b tag x ∙ append_assoc (operand own p.0 (read_clock own x) (n + 1) b) (equal p.0 (Inner n) (On (read_clock own x) tag x)) (outer_read own p.0 x)) meets in
       let m2 = meets_right a (operand own p.0 (read_clock own x) (n + 1) b) _ m in
       let (us, t, s) = operand_sound b hb false p.0 (read_clock own x) (n + 1) cl.operand_faults (meets_left a (operand own p.0 (read_clock own x) (n + 1) b) _ m) below_d in
@@ -367,19 +348,19 @@ module _ (k : Within) (site : Surroundings) (strong : Bool) (numbers : ℕ → C
 
   -- ---- rows of operands
 
-  arguments_sound : (es : List Expr) → EachOf SoundHere es → (p : ℕ) (on : Term) (m : ℕ) → (row w false es).faults ≡ [] → Meets a (operand_list own p on m es) → All (Demanded k) (flat_map inside es) →
+  arguments_sound : (es : List Expr) → EachOf SoundHere es → (p : ℕ) (on : Term) (m : ℕ) → (row w false es).faults ≡ [] → Meets a (operand_list own p on m es) → All (Demanded k site) (flat_map inside es) →
       unmet_list k.grade es ≡ [] → (tss : List (List Ty)) × ((row w false es).types ≡ Some tss) × SoundArguments k site es (clock a on) tss
   arguments_sound [] h p on m f meets d met = ([], refl, no_arguments)
   arguments_sound (e ∷ es) h p on m f meets d met =
-      let (ts, t, s) = h.0 false m (nil_left _ _ f) (meets_left a (operand own p on m e) _ meets).1 (all_left (Demanded k) (inside e) _ d) in
+      let (ts, t, s) = h.0 false m (nil_left _ _ f) (meets_left a (operand own p on m e) _ meets).1 (all_left (Demanded k site) (inside e) _ d) in
       let here = subst (λ (c : Clock). Sound k site e c ts) (meets_left a (operand own p on m e) _ meets).0 s in
       let (tss, u, r) = arguments_sound es h.1 p on (m + length (inside e)) (nil_right (judge_of w false e).faults _ f) (meets_right a (operand own p on m e) _ meets)
-      (all_right (Demanded k) (inside e) _ d) (nil_right (unmet e.place.0 (grade k.grade e.form)) _ met) in
+      (all_right (Demanded k site) (inside e) _ d) (nil_right (unmet e.place.0 (grade k.grade e.form)) _ met) in
       (ts ∷ tss, with_types (judge_of w false e) (row w false es) ts tss t u, an_argument here (is_met e.place.0 _ (nil_left _ _ met)) r)
 
   -- branches over a variable of a type; their tags are those of the type where it has tags
   values_sound : (x : Name) (on : Ty) (earlier : List Tag) (bs : List MergeBranch) → EachValue SoundHere bs → (p m : ℕ) → (branch_row w (Some on) earlier bs).faults ≡ [] → Meets a (branch_list own p x m bs) →
-      All (Demanded k) (flat_map (λ b. inside b.value) bs) → unmet_values k.grade bs ≡ [] →
+      All (Demanded k site) (flat_map (λ b. inside b.value) bs) → unmet_values k.grade bs ≡ [] →
       (tss : List (List Ty)) × ((branch_row w (Some on) earlier bs).types ≡ Some tss) × (length tss ≡ length bs) × (has_tags on ≡ true → SoundBranches k site x on (clock a (read_clock own x)) bs tss)
   values_sound x on earlier [] h p m f meets d met = ([], refl, refl, λ t. no_branches)
   values_sound x on earlier (b ∷ bs) h p m f meets d met =
@@ -389,14 +370,14 @@ module _ (k : Within) (site : Surroundings) (strong : Bool) (numbers : ℕ → C
       let fb : branch.faults ≡ [] = nil_left branch.faults _ f in
       let cl = clean b.place.0 own_faults value (branch_fit w b.tag (Some on)) fb in
       let step = On (read_clock own x) b.tag x in
-      let (us, t, s) = h.0 false m cl.operand_faults (meets_left a (operand own p step m b.value) _ meets).1 (all_left (Demanded k) (inside b.value) _ d) in
+      let (us, t, s) = h.0 false m cl.operand_faults (meets_left a (operand own p step m b.value) _ meets).1 (all_left (Demanded k site) (inside b.value) _ d) in
       let here = subst (λ (c : Clock). Sound k site b.value c us) (meets_left a (operand own p step m b.value) _ meets).0 s in
       let test = tag_fits w (type_of_tag w.types b.tag) on in
       let (ts, fits, gives) = typed b.place.0 own_faults value (branch_fit w b.tag (Some on)) us fb t (chosen test (Fits us) (fits_some us)) in
       let (tag_ok, same_ts) = passes test us ts fits in
       let known = no_fault b.place.0 UnknownName (unknown_tag w b.tag) (nil_left _ _ cl.own_faults) in
       let (tss, u, many, r) = values_sound x on (b.tag ∷ earlier) bs h.1 p (m + length (inside b.value)) (nil_right branch.faults _ f) (meets_right a (operand own p step m b.value) _ meets)
-      (all_right (Demanded k) (inside b.value) _ d) (nil_right (unmet b.value.place.0 (grade k.grade b.value.form)) _ met) in (
+      (all_right (Demanded k site) (inside b.value) _ d) (nil_right (unmet b.value.place.0 (grade k.grade b.value.form)) _ met) in (
         ts ∷ tss,
         with_types branch (branch_row w (Some on) (b.tag ∷ earlier) bs) ts tss gives u,
         ap suc many,
@@ -430,12 +411,12 @@ module _ (k : Within) (site : Surroundings) (strong : Bool) (numbers : ℕ → C
       let own_faults = read_faults w p.0 x ++ lack_faults w p.0 given (Some dx.ty) in
       let cl = clean p.0 own_faults (branch_row w (Some dx.ty) [] bs) (merge_fit w (Some dx.ty)) f in
       let lack = nil_right (read_faults w p.0 x) _ cl.own_faults in
-      let below_d = subst (All (Demanded k)) (below-Merge x bs) (All-tail (Demanded k) _ _ d) in
-      let met = sym (unmet_Merge k.grade p.0 x bs) ∙ (All-head (Demanded k) _ _ d).met in
+      let below_d = subst (All (Demanded k site)) (below-Merge x bs) (All-tail (Demanded k site) _ _ d) in
+      let met = sym (unmet_Merge k.grade p.0 x bs) ∙ (All-head (Demanded k site) _ _ d).met in
       let firsts = equal p.0 (Inner n) (read_clock own x) ++ outer_read own p.0 x in
       let m : Meets a (firsts ++ branch_list own p.0 x (n + 1) bs) = subst (Meets a) (conditions-Merge own n p.0 x bs) meets in
       let (tss, t, many, r) = values_sound x dx.ty [] bs hb p.0 (n + 1) cl.operand_faults (meets_right a firsts _ m) below_d (nil_right (unmet p.0 (k.grade x)) _ met) in
-      let some = λ (h : has_tags dx.ty ≡ true) (none : bs ≡ []). tagged.some x dx seen h (none_given w p.0 dx.ty (subst (λ (cs : List MergeBranch). lack_faults w p.0 (map (λ b. b.tag) cs) (Some dx.ty) ≡ []) none lack)) in
+      let some = λ (h : has_tags dx.ty ≡ true) (none : bs ≡ []). (All-head (Demanded k site) _ _ d).merged x dx (out_Merge x bs ∙ ap (Form-F.Merge x) none) seen h (none_given w p.0 dx.ty (subst (λ (cs : List MergeBranch). lack_faults w p.0 (map (λ b. b.tag) cs) (Some dx.ty) ≡ []) none lack)) in
       let (ts, fits, gives) = typed p.0 own_faults (branch_row w (Some dx.ty) [] bs) (merge_fit w (Some dx.ty)) tss f t (merge_not_untyped dx.ty bs tss many some) in
       let (with_tags, alike_is) = passes_fit (has_tags dx.ty) (alike tss) ts fits in
       let sees = reads_step x dx p.0 seen (meets_left a firsts _ m).1 in (
@@ -449,6 +430,9 @@ module _ (k : Within) (site : Surroundings) (strong : Bool) (numbers : ℕ → C
 
   -- ---- calls
 
+  leads : (g : Node) → calls_lead k.nodes g.name judged_node.name ≡ false → calls_lead k.nodes g.name k.node.name ≡ false
+  leads g h = ap (λ (n : Name). calls_lead k.nodes g.name n) (sym alike_name) ∙ h
+
   called_node : (p : ℕ) (o : Option Node) (own_faults : List Fault) (give : Fit → Fit) (args : Judged (List (List Ty))) → (call_judged w p o own_faults give args).faults ≡ [] → (g : Node) × (o ≡ Some g)
   called_node p None own_faults give args e = absurd (not_nil _ _ (clean p _ args (λ ts. barred w Untyped) e).own_faults)
   called_node p (Some g) own_faults give args e = (g, refl)
@@ -460,18 +444,18 @@ module _ (k : Within) (site : Surroundings) (strong : Bool) (numbers : ℕ → C
       let by = λ (o : Option Node). call_judged w p.0 o [] (λ z. z) ops in
       let (g, named) = called_node p.0 (node_named k.nodes f) [] (λ z. z) ops f1 in
       let f2 : (by (Some g)).faults ≡ [] = subst (λ (o : Option Node). (by o).faults ≡ []) named f1 in
-      let own_faults = fault p.0 Recursive (calls_lead k.nodes g.name k.node.name) ++ [] in
+      let own_faults = fault p.0 Recursive (calls_lead k.nodes g.name judged_node.name) ++ [] in
       let fit = λ (ts : List (List Ty)). barred w (call_fit g ts) in
       let cl = clean p.0 own_faults ops fit f2 in
-      let below_d = subst (All (Demanded k)) (below-Call f args) (All-tail (Demanded k) _ _ d) in
-      let here = All-head (Demanded k) _ _ d in
+      let below_d = subst (All (Demanded k site)) (below-Call f args) (All-tail (Demanded k site) _ _ d) in
+      let here = All-head (Demanded k site) _ _ d in
       let (tss, t, s) = arguments_sound args h p.0 (Inner n) (n + 1) cl.operand_faults (subst (Meets a) (conditions-Call own n p.0 f args) meets) below_d (sym (unmet_Call k.grade p.0 f args) ∙ here.met) in
       let (ts, fits, gives) = typed p.0 own_faults ops fit tss f2 t (barred_typed w (call_fit g tss) (call_typed g tss)) in
       let made = All-head (λ (x : Name). is_in x (calls_of (Some k.node)) ≡ true) f [] (subst (All (λ (x : Name). is_in x (calls_of (Some k.node)) ≡ true)) (called-Call f args) here.made) in (
         ts,
         ap (λ j. j.types) (judge-Call w under p.0 f args) ∙ ap (λ (o : Option Node). (by o).types) named ∙ gives,
         on_inner _ n ts (term_Call own n f args)
-            (is_call (out_Call f args) named s (barred_fits w (call_fit g tss) ts fits) (no_fault p.0 Recursive _ (nil_left _ [] cl.own_faults)) made),
+            (is_call (out_Call f args) named s (barred_fits w (call_fit g tss) ts fits) (leads g (no_fault p.0 Recursive _ (nil_left _ [] cl.own_faults))) made),
       )
 
   of_async_call : (q : ℕ) (f : Name) (args : List Expr) (p : Place) → EachOf SoundHere args → SoundHere (record { place = p; form = form.AsyncCall q f args })
@@ -482,11 +466,11 @@ module _ (k : Within) (site : Surroundings) (strong : Bool) (numbers : ℕ → C
       let by = λ (o : Option Node). call_judged w p.0 o inner async_fit ops in
       let (g, named) = called_node p.0 (node_named k.nodes f) inner async_fit ops f1 in
       let f2 : (by (Some g)).faults ≡ [] = subst (λ (o : Option Node). (by o).faults ≡ []) named f1 in
-      let own_faults = fault p.0 Recursive (calls_lead k.nodes g.name k.node.name) ++ inner in
+      let own_faults = fault p.0 Recursive (calls_lead k.nodes g.name judged_node.name) ++ inner in
       let fit = λ (ts : List (List Ty)). barred w (async_fit (call_fit g ts)) in
       let cl = clean p.0 own_faults ops fit f2 in
-      let below_d = subst (All (Demanded k)) (below-AsyncCall q f args) (All-tail (Demanded k) _ _ d) in
-      let here = All-head (Demanded k) _ _ d in
+      let below_d = subst (All (Demanded k site)) (below-AsyncCall q f args) (All-tail (Demanded k site) _ _ d) in
+      let here = All-head (Demanded k site) _ _ d in
       let (tss, t, s) = arguments_sound args h p.0 (Inner n) (n + 1) cl.operand_faults (subst (Meets a) (conditions-AsyncCall own n p.0 q f args) meets) below_d (sym (unmet_AsyncCall k.grade p.0 q f args) ∙ here.met) in
       let plain = All-head (λ (x : Name). (g : Node) → node_named k.nodes x ≡ Some g → list_all is_plain (types_of g.outputs) ≡ true) f []
       (subst (All (λ (x : Name). (g : Node) → node_named k.nodes x ≡ Some g → list_all is_plain (types_of g.outputs) ≡ true)) (called_async-AsyncCall q f args) here.plain) in
@@ -495,7 +479,7 @@ module _ (k : Within) (site : Surroundings) (strong : Bool) (numbers : ℕ → C
         ts,
         ap (λ j. j.types) (judge-AsyncCall w under p.0 q f args) ∙ ap (λ (o : Option Node). (by o).types) named ∙ gives,
         on_inner _ n ts (term_AsyncCall own n q f args)
-            (is_async_call (out_AsyncCall q f args) named s (barred_fits w (async_fit (call_fit g tss)) ts fits) (no_fault p.0 Recursive _ (nil_left _ inner cl.own_faults)) made),
+            (is_async_call (out_AsyncCall q f args) named s (barred_fits w (async_fit (call_fit g tss)) ts fits) (leads g (no_fault p.0 Recursive _ (nil_left _ inner cl.own_faults))) made),
       )
 
   -- ---- all forms

@@ -1,0 +1,3 @@
+pub mod Undefined
+pub mod Reordered
+mod SumCore

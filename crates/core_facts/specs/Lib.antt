@@ -1,0 +1,3 @@
+pub mod Undefined
+pub mod Static
+pub mod Kept

@@ -1,0 +1,3 @@
+mod Unmentioned
+mod Moved
+mod Nodes

@@ -1,0 +1,4 @@
+pub mod Sound
+pub mod Demands
+pub mod Judgings
+pub mod Values
