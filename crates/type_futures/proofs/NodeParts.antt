@@ -2,7 +2,7 @@
 use Rattle.std.proofs.Common.{◌≡◌, ℕ, false, List, [], ◌∷◌, ◌++◌, refl, sym, ◌∙◌, ap, map, append_assoc}
 use Rattle.std.specs.Prelude.{Option, Result, OnOk}
 use Rattle.std.specs.List.{flat_map}
-use Rattle.hept_ast.specs.Faults.{decl_faults, node_faults, seconds}
+use Rattle.hept_ast.specs.Faults.{Fault, decl_faults, node_faults, seconds}
 use Rattle.hept_ast.specs.InnerParts.{decl_label}
 use Rattle.hept_ast.specs.Limits.{earlier_of, earliest}
 use Rattle.hept_ast.specs.Parts.{Block, equation_case, variables}
