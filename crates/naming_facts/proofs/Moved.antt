@@ -230,7 +230,7 @@ module _ (core other : Core) (g h : Grades) (x : Name) (k : Regraded core other 
       let r = i st.0 (is_declared (form.Merge y bs) (Form-F.Merge y bs) y p (out_Merge y bs) refl s.0) none (below_known p (form.Merge y bs) (values bs) (below-Merge y bs) s) (values_of own v y bs st.2) proper in
       moved_by p (form.Merge y bs) (form.Merge y ms) (Form-F.Merge y bs) (Form-F.Merge y ms) (out_Merge y bs) (out_Merge y ms) (values ms) (below-Merge y ms)
       (λ u. unmet_Merge (may h) p.0 y ms ∙ both_nil (unmet p.0 (may h y)) (unmet_values (may h) ms) (ap (λ (n : List (List Name)). unmet p.0 (is_some_list n)) e ∙ nil_left (unmet p.0 (may g y)) (unmet_values (may g) bs) met)
-          (r.values_met (nil_right (unmet p.0 (may g y)) (unmet_values (may g) bs) met)))
+      (r.values_met (nil_right (unmet p.0 (may g y)) (unmet_values (may g) bs) met)))
       (λ n. n) (λ n. n) (r.some y) (called_async-Merge y ms ∙ sym (called_async-Merge y bs)) refl
       (λ z. grade-Merge (may h) y ms ∙ r.values_graded (sym (grade-Merge (may g) y bs) ∙ z)) r.all_values r.values_found s.0
 
@@ -263,8 +263,8 @@ module _ (core other : Core) (g h : Grades) (x : Name) (k : Regraded core other 
         moved_by p (form.If l b f) (form.If m b f) (Form-F.If l b f) (Form-F.If m b f) (out_If l b f) (out_If m b f) (inside m ++ inside b ++ inside f) (below-If m b f)
         (λ u. asks_If (may h) p.0 m b f) (λ n. n) (λ n. n) (λ n. n) (called_async-If m b f ∙ sym (called_async-If l b f)) (two_lists _ _ _ _ (two_lists _ _ _ _ r.lists t.lists) o.lists)
         (λ z. let y = sym (grade-If (may g) l b f) ∙ z in
-            let w = or_left (grade (may g) l.form || grade (may g) b.form) _ y in
-            grade-If (may h) m b f ∙ both_false _ _ (both_false _ _ (r.graded (or_left (grade (may g) l.form) _ w)) (t.graded ∙ or_right (grade (may g) l.form) _ w)) (o.graded ∙ or_right (grade (may g) l.form || grade (may g) b.form) _ y))
+        let w = or_left (grade (may g) l.form || grade (may g) b.form) _ y in
+        grade-If (may h) m b f ∙ both_false _ _ (both_false _ _ (r.graded (or_left (grade (may g) l.form) _ w)) (t.graded ∙ or_right (grade (may g) l.form) _ w)) (o.graded ∙ or_right (grade (may g) l.form || grade (may g) b.form) _ y))
         (each_both Later (inside m ++ inside b) (inside f) (each_both Later (inside m) (inside b) r.all t.all) o.all) r.found s.0;
     at_then = λ c p l b f m i s st proper. let q = below_known p (form.If l b f) (inside l ++ inside b ++ inside f) (below-If l b f) s in
         let front = each_left Known (inside l ++ inside b) (inside f) q in
@@ -274,8 +274,8 @@ module _ (core other : Core) (g h : Grades) (x : Name) (k : Regraded core other 
         moved_by p (form.If l b f) (form.If l m f) (Form-F.If l b f) (Form-F.If l m f) (out_If l b f) (out_If l m f) (inside l ++ inside m ++ inside f) (below-If l m f)
         (λ u. asks_If (may h) p.0 l m f) (λ n. n) (λ n. n) (λ n. n) (called_async-If l m f ∙ sym (called_async-If l b f)) (two_lists _ _ _ _ (two_lists _ _ _ _ t.lists r.lists) o.lists)
         (λ z. let y = sym (grade-If (may g) l b f) ∙ z in
-            let w = or_left (grade (may g) l.form || grade (may g) b.form) _ y in
-            grade-If (may h) l m f ∙ both_false _ _ (both_false _ _ (t.graded ∙ or_left (grade (may g) l.form) _ w) (r.graded (or_right (grade (may g) l.form) _ w))) (o.graded ∙ or_right (grade (may g) l.form || grade (may g) b.form) _ y))
+        let w = or_left (grade (may g) l.form || grade (may g) b.form) _ y in
+        grade-If (may h) l m f ∙ both_false _ _ (both_false _ _ (t.graded ∙ or_left (grade (may g) l.form) _ w) (r.graded (or_right (grade (may g) l.form) _ w))) (o.graded ∙ or_right (grade (may g) l.form || grade (may g) b.form) _ y))
         (each_both Later (inside l ++ inside m) (inside f) (each_both Later (inside l) (inside m) t.all r.all) o.all) r.found s.0;
     at_else = λ c p l b f m i s st proper. let q = below_known p (form.If l b f) (inside l ++ inside b ++ inside f) (below-If l b f) s in
         let front = each_left Known (inside l ++ inside b) (inside f) q in
@@ -285,8 +285,8 @@ module _ (core other : Core) (g h : Grades) (x : Name) (k : Regraded core other 
         moved_by p (form.If l b f) (form.If l b m) (Form-F.If l b f) (Form-F.If l b m) (out_If l b f) (out_If l b m) (inside l ++ inside b ++ inside m) (below-If l b m)
         (λ u. asks_If (may h) p.0 l b m) (λ n. n) (λ n. n) (λ n. n) (called_async-If l b m ∙ sym (called_async-If l b f)) (two_lists _ _ _ _ (two_lists _ _ _ _ t.lists o.lists) r.lists)
         (λ z. let y = sym (grade-If (may g) l b f) ∙ z in
-            let w = or_left (grade (may g) l.form || grade (may g) b.form) _ y in
-            grade-If (may h) l b m ∙ both_false _ _ (both_false _ _ (t.graded ∙ or_left (grade (may g) l.form) _ w) (o.graded ∙ or_right (grade (may g) l.form) _ w)) (r.graded (or_right (grade (may g) l.form || grade (may g) b.form) _ y)))
+        let w = or_left (grade (may g) l.form || grade (may g) b.form) _ y in
+        grade-If (may h) l b m ∙ both_false _ _ (both_false _ _ (t.graded ∙ or_left (grade (may g) l.form) _ w) (o.graded ∙ or_right (grade (may g) l.form) _ w)) (r.graded (or_right (grade (may g) l.form || grade (may g) b.form) _ y)))
         (each_both Later (inside l ++ inside b) (inside m) (each_both Later (inside l) (inside b) t.all o.all) r.all) r.found s.0;
     at_fby_first = λ c p b f m i s st proper. let q = below_known p (form.Fby b f) (inside b ++ inside f) (below-Fby b f) s in
         let r = i (each_left Known (inside b) (inside f) q) st.0.0 proper in

@@ -1,0 +1,13 @@
+pub mod Presence
+pub mod NamesRead
+pub mod Fitting
+pub mod Calls
+pub mod Forms
+pub mod Bodies
+pub mod Law
+pub mod Needs
+pub mod Lists
+pub mod StandIn
+pub mod Converted
+pub mod StaticSound
+pub mod Sending

@@ -1,0 +1,4 @@
+pub mod Sound
+pub mod Holding
+pub mod Laws
+pub mod StaticLaws

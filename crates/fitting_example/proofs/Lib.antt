@@ -1,0 +1,2 @@
+mod ExampleCore
+mod Refused
