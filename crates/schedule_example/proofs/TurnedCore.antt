@@ -22,7 +22,7 @@ use Rattle.core_rules.proofs.Ends.{same_is, same_self}
 use Rattle.core_rules.proofs.SumCore.{differ}
 use Rattle.core_naming.specs.Normal.{AreNormal, IsNormalRight, is_step, plain}
 use Rattle.schedule.specs.Order.{IsOrdered, IsOrderedNode}
-use Rattle.schedule.specs.Example.{TurnedCanBeOrdered, copy_of, sum_of, turned_core, turned_node}
+use Rattle.schedule_example.specs.Example.{TurnedCanBeOrdered, copy_of, sum_of, turned_core, turned_node}
 
 sum_typed : IsTypedEquation turned_core turned_node sum_of
 unfolding static out-Form Carrier.out
