@@ -81,7 +81,7 @@ pub(crate) fn note_nodes(
     Ok(first)
 }
 
-/// The clocks of a program: the least ones that meet the conditions of its text, by the rules of Heptagon's clocks.
+/// The clocks of a program: the least ones that meet the conditions of its text.
 pub fn check_clocks(alloc: Global, typed: Typed) -> Result<Clocked, ClockFault>
     ensures program { IfOk result (λ c. c.program ≡ typed) }
     ensures clocks { IfOk result (λ c. HasLeastClocks typed c.clocks) }

@@ -1,16 +1,16 @@
 -- The sites of nodes whose equations stand in another order, and what they are sent.
-use Rattle.std.proofs.Common.{◌≡◌, ℕ, zero, suc, ◌+◌, ◌-◌, Bool, true, false, List, [], ◌∷◌, ◌++◌, Option, Some, None, map, take, length, refl, sym, ap, subst, ◌∙◌, append_assoc}
+use Rattle.std.proofs.Common.{◌≡◌, ℕ, suc, ◌-◌, Bool, true, false, List, [], ◌∷◌, ◌++◌, Option, map, take, length, refl, sym, ap, subst, append_assoc}
 use Rattle.std.specs.Prelude.{if◌then◌else◌}
 use Rattle.std.specs.List.{find}
 use Rattle.std.specs.List.Sorted.{IsPermutation}
 use Rattle.std.specs.Option.{option_map}
 use Rattle.std.proofs.lemmas.List.Sorted.{IsPermutation-refl, IsPermutation-sym, IsPermutation-trans, IsPermutation-append, IsPermutation-append_left, IsPermutation-append_right, IsPermutation-append_comm, IsPermutation-map}
 use Rattle.hept_ast.specs.Texts.{Name, same}
-use Rattle.hept_ast.specs.Scopes.{Clock, Text, Written, Lowered, Scope, Top, In_branch, In_body, In_state, Under, block_of, text_of, calls_around}
-use Rattle.hept_ast.specs.Meaning.{Gives, Setting, clock_seen, call_of}
+use Rattle.hept_ast.specs.Scopes.{Clock, Text, Lowered, Scope, Top, In_state, Under, block_of, text_of}
+use Rattle.hept_ast.specs.Meaning.{Gives, Setting}
 use Rattle.hept_ast.specs.Outputs.{HaveValues}
 use Rattle.hept_ast.specs.Settings.{of_core}
-use Rattle.hept_ast.specs.Sites.{Piece, Expression, Statement, Core_statement, Body, Site, path_of, expressions, conditions, state_pieces, callee_pieces, form_pieces, clock_of_left, equation_pieces, body_pieces, pieces, async_site, form_site, own_site, SitesOf, whole, SitesOfAll, none, first, insert, is_before, by_number, Sites, SentFrom, end, no_call, call, argument_questions}
+use Rattle.hept_ast.specs.Sites.{Piece, Expression, Statement, Core_statement, Body, Site, path_of, expressions, conditions, state_pieces, callee_pieces, form_pieces, clock_of_left, equation_pieces, body_pieces, pieces, async_site, form_site, own_site, SitesOf, whole, SitesOfAll, none, first, insert, is_before, by_number, Sites, SentFrom, end, no_call, call}
 use Rattle.hept_ast.specs.Paths.{AllDiffer}
 use Rattle.hept_ast.specs.Reordering.{Reordered, SameText, written, lowered, SameScope, top, called, branch, body, state, under, SameSite, same_site, SameSites, no_sites, more_sites, HasSameSites, OrderKeepsSites, OrderKeepsSent}
 use Rattle.hept_ast.specs.declared.tree.TypeDec.{TypeDec}

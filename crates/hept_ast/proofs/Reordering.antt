@@ -7,7 +7,7 @@ use Rattle.std.specs.List.Sorted.{IsPermutation}
 use Rattle.std.proofs.lemmas.List.Sums.{sum_by-cons}
 use Rattle.std.proofs.lemmas.List.Sorted.{All-permutation, sum_by-IsPermutation}
 use Rattle.hept_ast.specs.Texts.{Name, same, is_in, place_in, tag_value, branch_of, names}
-use Rattle.hept_ast.specs.Scopes.{Clock, Text, Written, Lowered, Scope, Top, Called, In_branch, In_body, In_state, Under, inputs_of, outputs_of, text_of, block_of, state_block, declared_in, node_decls, text_block, home, calls_around, equation_of}
+use Rattle.hept_ast.specs.Scopes.{Clock, Text, Lowered, Scope, Top, Called, In_branch, In_state, Under, inputs_of, outputs_of, text_of, block_of, state_block, declared_in, node_decls, text_block, home, calls_around, equation_of}
 use Rattle.hept_ast.specs.Meaning.{Question, Gives, Output, Variable, Last, Defined, Defines, Present, Active, Restarted, Active_state, Left_state, Answer, State_at, Rule, Reads, Setting, is_true, is_value, clock_in, clock_seen, clock_of_equation, steps_hold, before, merged, form_rule, output_rule, outputs_rule, reply_or, right_rule, defined_or_last, branch_rule, equation_rule, block_rule, defines_rule, core_rule, defined_rule, argument_rule, own_rule, variable_rule, initial_rule, last_rule, taken, from_pending, active_rule, some_true, restarted_rule, rule, answer_to, strong_of, weak_of, constant_of, if_present}
 use Rattle.hept_ast.specs.Outputs.{Knows, HaveValues, OutputsFrom, Outputs}
 use Rattle.hept_ast.specs.Settings.{of_core}
@@ -24,7 +24,6 @@ use Rattle.hept_ast.specs.declared.tree.Escape.{Escape}
 use Rattle.hept_ast.specs.declared.tree.Block.{Block}
 use Rattle.hept_ast.specs.declared.tree.Branch.{Branch}
 use Rattle.hept_ast.specs.declared.tree.State.{State}
-use Rattle.hept_ast.specs.declared.tree.Node.{Node}
 use Rattle.hept_ast.specs.declared.tree.Equation.{Equation, out-Equation}
 use Rattle.hept_ast.specs.declared.tree.Equation.TheOpen.{Equation-F}
 use Rattle.hept_ast.specs.declared.tree.CoreEquation.{CoreEquation}

@@ -1,5 +1,5 @@
 -- The parts of a node's text without what stands around them, as code holds them.
-use Rattle.std.specs.Prelude.{List, map}
+use Rattle.std.specs.Prelude.{map}
 use Rattle.hept_ast.specs.InnerParts.{state_names}
 use Rattle.hept_ast.specs.Parts.{Part, Transition, equation_case, branch_case, state_case, block_sets}
 use Rattle.hept_ast.specs.Parts as parts

@@ -6,11 +6,10 @@ use Rattle.std.specs.List.{flat_map}
 use Rattle.std.proofs.lemmas.List.Sums.{sum_by-cons}
 use Rattle.hept_ast.specs.Texts.{Name, same, is_in, names}
 use Rattle.hept_ast.specs.Scopes.{Clock}
-use Rattle.hept_ast.specs.Parts.{Placed, Plain as Plain_part, inside, expressions_of, parts, parts_of, variables}
-use Rattle.hept_ast.specs.Clocks.{AreClocks, AreLeastClocks, Assignment, Base, Condition, Inner, Meets, Of, On, Term, clock, conditions, defined, equal, expression, numbered, own_names, reading, term_of, total_length, unless}
+use Rattle.hept_ast.specs.Parts.{Placed, inside, parts, parts_of, variables}
+use Rattle.hept_ast.specs.Clocks.{AreClocks, Assignment, Base, Condition, Inner, Meets, Of, Term, clock, defined, equal, expression, numbered, own_names, reading, term_of, unless}
 use Rattle.hept_ast.specs.ClockMaps.{ClockMap, clock_in, path_in, steps_or_none}
 use Rattle.hept_ast.specs.Stages.{HasLeastClocks, declares_at, declares_in}
-use Rattle.hept_ast.specs.declared.name.Place.{Place}
 use Rattle.hept_ast.specs.declared.tree.ClockPath.{ClockPath}
 use Rattle.hept_ast.specs.declared.tree.Program.{Program}
 use Rattle.hept_ast.specs.declared.tree.Node.{Node}

@@ -1,5 +1,5 @@
 -- What is found of a node, list by list.
-use Rattle.std.proofs.Common.{◌≡◌, ℕ, false, List, [], ◌∷◌, ◌++◌, refl, sym, ◌∙◌, ap, map, append_assoc}
+use Rattle.std.proofs.Common.{◌≡◌, ℕ, false, List, [], ◌++◌, sym, ◌∙◌, ap, map}
 use Rattle.std.specs.Prelude.{Option, Result, OnOk}
 use Rattle.std.specs.List.{flat_map}
 use Rattle.hept_ast.specs.Faults.{Fault, decl_faults, node_faults, seconds}
