@@ -6,7 +6,7 @@ ghost use Rattle.causality.specs.Flows.{flow_of, node_flows};
 ghost use Rattle.causality.specs.Vertices.{clock_reads, flow_reads, graph_by, lefts, name_of, number_in, numbers, vertices};
 
 use crate::flows::Flow;
-use hept_ast::{Clocked, Memory, Name, Node, NodeId};
+use hept_ast::{Clocked, Memory, Name, Node, NodeId, copy_name};
 use node_text::{is_among, is_same, node_variables, push_listed, push_name, push_names};
 use sqlite_items::Items;
 use std::alloc::Global;
@@ -159,7 +159,7 @@ fn name_at(alloc: Global, vertices: &[&Name], number: usize) -> Result<Name, Mem
     requires { number < length vertices.now }
     ensures { IfOk result (λ x. x ≡ name_of (map (λ r. r.now) vertices.now) number) }
 {
-    Name::of(alloc, vertices[number].bytes())
+    copy_name(alloc, vertices[number])
 }
 
 /// The names of numbers.

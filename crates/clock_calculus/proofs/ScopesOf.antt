@@ -1,6 +1,5 @@
 -- Look-ups in what stands around a part.
 use Rattle.std.proofs.Common.{◌≡◌, ℕ, ◌+◌, ◌<◌, List, [], ◌∷◌, ◌++◌, length, map, take, drop, get_or, refl, sym, ◌∙◌, ap, arith, Bool, true, false, ◌||◌, Some, None, append_assoc, append-nil}
-use Rattle.std.specs.List.{list_any}
 use Rattle.std.specs.Option.{option_or}
 use Rattle.std.proofs.lemmas.List.{at_drop_more, take_all, take_more}
 use Rattle.std.proofs.lemmas.List.Folds.{find-append, list_any-append}
@@ -11,11 +10,6 @@ use Rattle.hept_ast.specs.declared.tree.Node.{Node}
 use Rattle.clock_calculus.specs.Sites.{around_of}
 use Rattle.clock_calculus.specs.declared.scope.Around as around
 use Rattle.clock_calculus.specs.declared.scope.Around.TheVariants as variant
-
--- a test of what each element is mapped to
-pub any_mapped : {A B : Type 0} (p : B → Bool) (f : A → B) (xs : List A) → list_any p (map f xs) ≡ list_any (λ x. p (f x)) xs
-any_mapped p f [] = refl
-any_mapped p f (x ∷ xs) = ap (λ t. p (f x) || t) (any_mapped p f xs)
 
 -- what is declared from a block outwards
 pub own_from : (node : Node) (x : Name) (xs : List around.Around) (i : ℕ) (a : around.Around) → i < length xs → a ≡ get_or xs i a

@@ -5,6 +5,7 @@ ghost use Rattle.clock_calculus.specs.Collecting.{added, collection, counted, de
 ghost use Rattle.clock_calculus.specs.Written.{base_term, clock_term};
 
 use hept_ast::{Decl, Memory, Name, Place, Tag};
+use node_text::push_declared_names;
 use std::alloc::Global;
 
 /// What a clock stands on: the base clock of the scope, or the clock of a variable or an expression.
@@ -108,17 +109,6 @@ impl<'a> Collected<'a> {
     pub(crate) fn declare(&mut self, decls: &'a [Decl]) -> Result<(), Memory>
         ensures { OnOk result (collection self.new ≡ declaring (collection self.old) decls.now) }
     {
-        push_names(&mut self.variables, decls)
+        push_declared_names(&mut self.variables, decls)
     }
-}
-
-fn push_names<'a>(names: &mut Vec<&'a Name>, decls: &'a [Decl]) -> Result<(), Memory>
-    ensures { OnOk result (map (λ r. r.now) names.new.items ≡ map (λ r. r.now) names.old.items ++ declared_names decls.now) }
-{
-    for decl in decls {
-        if names.push(&decl.name).is_err() {
-            return Err(Memory);
-        }
-    }
-    Ok(())
 }

@@ -9,7 +9,7 @@ ghost use Rattle.clock_calculus.specs.Unify.{base_path, least};
 use crate::conditions::Step;
 use crate::numbers::Numbers;
 use crate::unify::Term;
-use hept_ast::{ClockPath, ClockStep, Clocks, Memory, Name, NodeId, Tag};
+use hept_ast::{ClockPath, ClockStep, Clocks, Memory, Name, NodeId, Tag, copy_name, copy_tag};
 use sqlite_items::{Items, at};
 use std::alloc::Global;
 
@@ -33,21 +33,6 @@ fn numbers_of<'b>(numbers: &Numbers<'_>, bindings: &'b [Option<Term>], name: &Na
     match numbers.variable(name) {
         Some(u) => steps_bound(bindings, u),
         None => &[],
-    }
-}
-
-fn copy_name(alloc: Global, name: &Name) -> Result<Name, Memory>
-    ensures { IfOk result (λ n. n ≡ name.now) }
-{
-    Name::of(alloc, name.bytes())
-}
-
-fn copy_tag(alloc: Global, tag: &Tag) -> Result<Tag, Memory>
-    ensures { IfOk result (λ t. t ≡ tag.now) }
-{
-    match tag {
-        Tag::Truth(value) => Ok(Tag::Truth(*value)),
-        Tag::Constructor(name) => Ok(Tag::Constructor(copy_name(alloc, name)?)),
     }
 }
 

@@ -9,9 +9,9 @@ ghost use Rattle.clock_calculus.specs.Unify.{IsWithin};
 ghost use Rattle.clock_calculus.specs.Written.{base_term, clock_term};
 
 use crate::conditions::{Base, Clock, Condition, Step};
-use crate::scope::is_same;
 use crate::unify::Term;
 use hept_ast::{Memory, Name, Tag};
+use node_text::is_same;
 use sqlite_items::Items;
 use std::alloc::Global;
 

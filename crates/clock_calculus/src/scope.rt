@@ -8,6 +8,7 @@ ghost use Rattle.hept_ast.specs.Texts.{is_in, names, same};
 ghost use Rattle.clock_calculus.specs.Sites.{around_of, own_of, seen_of, site_of};
 
 use hept_ast::{Decl, Expr, Memory, Name, Node, State};
+use node_text::{is_declared_in, is_same};
 use std::alloc::Global;
 
 /// A block around something: what decides when it is active or restarted, and what it declares.
@@ -23,25 +24,6 @@ pub(crate) enum Around<'a> {
 pub(crate) struct Scope<'a> {
     pub node: &'a Node,
     pub site: Vec<Around<'a>>,
-}
-
-pub(crate) fn is_same(x: &Name, y: &Name) -> bool
-    ensures { result ≡ same x.now y.now }
-{
-    x.bytes() == y.bytes()
-}
-
-fn is_name_of_any(name: &Name, decls: &[Decl]) -> bool
-    ensures { result ≡ list_any (λ d. same name.now d.name) decls.now }
-{
-    decls.iter().any(|decl| is_same(name, &decl.name))
-}
-
-/// Whether a name is one of those that are declared.
-pub(crate) fn is_declared_in(name: &Name, decls: &[Decl]) -> bool
-    ensures { result ≡ is_in name.now (names decls.now) }
-{
-    is_name_of_any(name, decls)
 }
 
 fn is_declared_by_node(node: &Node, name: &Name) -> bool

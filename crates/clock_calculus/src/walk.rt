@@ -11,8 +11,8 @@ ghost use Rattle.clock_calculus.specs.Written.{base_term};
 use crate::conditions::{Base, Collected};
 use crate::expressions::{base_of, push_expected, push_expression};
 use crate::scope::{Around, Scope};
-use crate::sets::{push_branches as push_branch_sets, push_states as push_state_sets};
 use hept_ast::{Block, Branch, Decl, Equation, Escape, Expr, Memory, Name, Node, Place, State};
+use node_text::{push_branch_sets, push_state_sets};
 use std::alloc::Global;
 
 /// A variable that is on the base clock by its declaration.

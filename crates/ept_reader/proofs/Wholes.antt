@@ -5,22 +5,22 @@ use Rattle.hept_ast.specs.declared.tree.Program.{Program}
 use Rattle.hept_ast.specs.declared.tree.TypeDec.{TypeDec}
 use Rattle.hept_ast.specs.declared.tree.Node.{Node}
 use Rattle.hept_ast.specs.declared.name.Place.{Place}
-use Rattle.ept_reader.specs.declared.cutter.CutFault.{CutFault}
+use Rattle.ept_tokens.specs.declared.cutter.CutFault.{CutFault}
 use Rattle.ept_reader.specs.declared.reader.ReadFault.{ReadFault}
 use Rattle.ept_reader.specs.declared.reader.ReadFault.TheVariants as fault
-use Rattle.ept_reader.specs.declared.token.Fault.{Fault}
-use Rattle.ept_reader.specs.declared.token.Fault.TheVariants.{Unexpected, TooDeep, Memory}
-use Rattle.ept_reader.specs.declared.token.Token.{Token}
-use Rattle.ept_reader.specs.Tokens.{Bytes, Reason, Cut}
-use Rattle.ept_reader.specs.Cutting.{IsNotCut, fault_of}
-use Rattle.ept_reader.specs.Grammar.{Whole}
-use Rattle.ept_reader.specs.Text.{IsText, IsRefused}
+use Rattle.ept_grammar.specs.declared.parts.Fault.{Fault}
+use Rattle.ept_grammar.specs.declared.parts.Fault.TheVariants.{Unexpected, TooDeep, Memory}
+use Rattle.ept_tokens.specs.declared.token.Token.{Token}
+use Rattle.ept_tokens.specs.Tokens.{Bytes, Reason, Cut}
+use Rattle.ept_tokens.specs.Cutting.{IsNotCut, fault_of}
+use Rattle.ept_grammar.specs.Grammar.{Whole}
+use Rattle.ept_grammar.specs.Text.{IsText, IsRefused}
 use Rattle.ept_reader.specs.Spelling.{IsProgramText, IsRefusalOf, of_cut, of_tokens}
-use Rattle.ept_reader.proofs.Bools.{true≢false}
-use Rattle.ept_reader.proofs.Lists.{some_more}
-use Rattle.ept_reader.proofs.OneCut.{one_cut}
-use Rattle.ept_reader.proofs.Places.{only_text}
-use Rattle.ept_reader.proofs.Refusals.{text_refused, one_refusal}
+use Rattle.ept_tokens.proofs.Bools.{true≢false}
+use Rattle.ept_steps.proofs.Lists.{some_more}
+use Rattle.ept_tokens.proofs.OneCut.{one_cut}
+use Rattle.ept_grammar.proofs.Places.{only_text}
+use Rattle.ept_grammar.proofs.Refusals.{text_refused, one_refusal}
 
 -- ---- lists
 

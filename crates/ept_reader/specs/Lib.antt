@@ -1,8 +1,5 @@
-pub mod Kinds
-pub mod Tokens
-pub mod Cutting
-pub mod Grammar
-pub mod Text
-pub mod Reading
-pub mod Laws
+pub use Rattle.ept_tokens.specs.Tokens
+pub use Rattle.ept_tokens.specs.Cutting
+pub use Rattle.ept_grammar.specs.Grammar
+pub use Rattle.ept_grammar.specs.Text
 pub mod Spelling

@@ -2,17 +2,17 @@
 use Rattle.std.specs.Prelude.{◌≡◌, ◌≢◌, ℕ, ◌-◌, List, [], ◌∷◌, drop, length, Some, None, Result, Ok, Err, ◌⊎◌}
 use Rattle.hept_ast.specs.declared.name.Place.{Place}
 use Rattle.hept_ast.specs.declared.tree.Program.{Program}
-use Rattle.ept_reader.specs.declared.cutter.CutFault.{CutFault}
-use Rattle.ept_reader.specs.declared.cutter.CutFault.TheVariants as cutting
+use Rattle.ept_tokens.specs.declared.cutter.CutFault.{CutFault}
+use Rattle.ept_tokens.specs.declared.cutter.CutFault.TheVariants as cutting
 use Rattle.ept_reader.specs.declared.reader.ReadFault.{ReadFault}
 use Rattle.ept_reader.specs.declared.reader.ReadFault.TheVariants as fault
-use Rattle.ept_reader.specs.declared.token.Fault.{Fault}
-use Rattle.ept_reader.specs.declared.token.Fault.TheVariants.{Unexpected, TooDeep, Memory}
-use Rattle.ept_reader.specs.declared.token.Token.{Token}
-use Rattle.ept_reader.specs.Tokens.{Bytes, Reason, Cut}
-use Rattle.ept_reader.specs.Cutting.{fault_of}
-use Rattle.ept_reader.specs.Grammar.{Whole}
-use Rattle.ept_reader.specs.Text.{IsText, IsRefused}
+use Rattle.ept_grammar.specs.declared.parts.Fault.{Fault}
+use Rattle.ept_grammar.specs.declared.parts.Fault.TheVariants.{Unexpected, TooDeep, Memory}
+use Rattle.ept_tokens.specs.declared.token.Token.{Token}
+use Rattle.ept_tokens.specs.Tokens.{Bytes, Reason, Cut}
+use Rattle.ept_tokens.specs.Cutting.{fault_of}
+use Rattle.ept_grammar.specs.Grammar.{Whole}
+use Rattle.ept_grammar.specs.Text.{IsText, IsRefused}
 
 -- The bytes are a text of the program, within the bounds.
 pub record IsProgramText (bytes : Bytes) (program : Program) : Type 0 where

@@ -1,43 +1,14 @@
 //! Reads declarations.
 ghost use Rattle.std.specs.Prelude.{◌≡◌, ◌<◌, ◌≤◌, length, IfOk, MatchResult};
-ghost use Rattle.ept_reader.specs.Grammar.{Block_locals, Declaration, Decls, Input, Inputs, Locals, Names, Typed_names, declared};
-ghost use Rattle.ept_reader.specs.Reading.{Fails, Reads, first, look, may_begin};
+ghost use Rattle.ept_grammar.specs.Grammar.{Block_locals, Declaration, Decls, Input, Inputs, Locals, Names, Typed_names, declared};
+ghost use Rattle.ept_grammar.specs.Reading.{Fails, Reads, first, look, may_begin};
 
-use crate::constants::{initial, type_of};
-use crate::look_ahead::{copy, copy_token, fresh, take, want};
-use crate::token::{Counts, Fault, Kind, Token};
-use hept_ast::{Const, Decl, Init, Plain, Ty};
+use ept_grammar::{Counts, Fault};
+use ept_steps::{copy_token, fresh, initial, take, type_of, want};
+use ept_tokens::{Kind, Token};
+use hept_ast::{Decl, Init, Ty, copy_const, copy_name, copy_type};
 use sqlite_items::Items;
 use std::alloc::Global;
-
-fn copy_plain(alloc: Global, plain: &Plain) -> Result<Plain, Fault>
-    ensures { MatchResult result (λ r. r ≡ plain.now) (λ e. e ≡ Fault.Memory) }
-{
-    match plain {
-        Plain::Int => Ok(Plain::Int),
-        Plain::Bool => Ok(Plain::Bool),
-        Plain::Named(name) => Ok(Plain::Named(copy(alloc, name)?)),
-    }
-}
-
-fn copy_type(alloc: Global, ty: &Ty) -> Result<Ty, Fault>
-    ensures { MatchResult result (λ r. r ≡ ty.now) (λ e. e ≡ Fault.Memory) }
-{
-    match ty {
-        Ty::Plain(plain) => Ok(Ty::Plain(copy_plain(alloc, plain)?)),
-        Ty::Future(plain) => Ok(Ty::Future(copy_plain(alloc, plain)?)),
-    }
-}
-
-fn copy_constant(alloc: Global, value: &Const) -> Result<Const, Fault>
-    ensures { MatchResult result (λ r. r ≡ value.now) (λ e. e ≡ Fault.Memory) }
-{
-    match value {
-        Const::Number(number) => Ok(Const::Number(*number)),
-        Const::Truth(truth) => Ok(Const::Truth(*truth)),
-        Const::Constructor(name) => Ok(Const::Constructor(copy(alloc, name)?)),
-    }
-}
 
 fn copy_initial(alloc: Global, init: &Option<Init>) -> Result<Option<Init>, Fault>
     ensures { MatchResult result (λ r. r ≡ init.now) (λ e. e ≡ Fault.Memory) }
@@ -45,7 +16,7 @@ fn copy_initial(alloc: Global, init: &Option<Init>) -> Result<Option<Init>, Faul
     match init {
         None => Ok(None),
         Some(init) => {
-            let value = copy_constant(alloc, &init.value)?;
+            let value = copy_const(alloc, &init.value)?;
             let ready = init.ready;
             Ok(Some(Init { ready, value }))
         }
@@ -55,7 +26,7 @@ fn copy_initial(alloc: Global, init: &Option<Init>) -> Result<Option<Init>, Faul
 fn declare_one(alloc: Global, token: &Token, ty: &Ty, init: &Option<Init>) -> Result<Decl, Fault>
     ensures { MatchResult result (λ d. d ≡ record { place = token.now.place; name = token.now.name; ty = ty.now; init = init.now }) (λ e. e ≡ Fault.Memory) }
 {
-    let name = copy(alloc, &token.name)?;
+    let name = copy_name(alloc, &token.name)?;
     let ty = copy_type(alloc, ty)?;
     let init = copy_initial(alloc, init)?;
     let place = token.place;

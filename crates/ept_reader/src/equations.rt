@@ -1,14 +1,14 @@
 //! Reads equations, blocks and automata.
 ghost use Rattle.std.specs.Prelude.{◌≡◌, ◌<◌, ◌≤◌, ◌∷◌, [], length, IfOk, MatchResult};
-ghost use Rattle.ept_reader.specs.Grammar.{Block_of, Branch_list, Branch_of, Eq, Eqs, Escape_list, Escape_of, Escapes, Resetting, Several, State_list, State_of, Strong, Switching, Target, Transitions, Weak, names_of, place_of as place_of_text};
-ghost use Rattle.ept_reader.specs.Reading.{Fails, Reads, first, look, may_begin};
+ghost use Rattle.ept_grammar.specs.Grammar.{Block_of, Branch_list, Branch_of, Eq, Eqs, Escape_list, Escape_of, Escapes, Resetting, Several, State_list, State_of, Strong, Switching, Target, Transitions, Weak, names_of, place_of as place_of_text};
+ghost use Rattle.ept_grammar.specs.Reading.{Fails, Reads, first, look, may_begin};
 
-use crate::constants::tag;
 use crate::declarations::{block_locals, names};
-use crate::expressions::expression;
-use crate::look_ahead::{closed, closed_fresh, copy, fresh, opened, opened_fresh, take, want};
-use crate::token::{Counts, Fault, Kind, Token};
-use hept_ast::{Block, Branch, Equation, Escape, Expr, Name, Place, State};
+use ept_expressions::expression;
+use ept_grammar::{Counts, Fault};
+use ept_steps::{closed, closed_fresh, fresh, opened, opened_fresh, tag, take, want};
+use ept_tokens::{Kind, Token};
+use hept_ast::{Block, Branch, Equation, Escape, Expr, Name, Place, State, copy_name};
 use sqlite_items::{Boxed, Items};
 use std::alloc::Global;
 
@@ -23,11 +23,11 @@ fn target(
 {
     if let Some((_, rest)) = take(Kind::Continue, tokens) {
         let (token, rest) = want(Kind::Upper, rest)?;
-        return Ok((false, copy(alloc, &token.name)?, rest, counts));
+        return Ok((false, copy_name(alloc, &token.name)?, rest, counts));
     }
     let (_, rest) = want(Kind::Then, tokens)?;
     let (token, end) = want(Kind::Upper, rest)?;
-    Ok((true, copy(alloc, &token.name)?, end, counts))
+    Ok((true, copy_name(alloc, &token.name)?, end, counts))
 }
 
 fn place_of(tokens: &[Token]) -> Place
@@ -152,15 +152,15 @@ fn several(
     let (_, closed) = want(Kind::CloseParen, rest)?;
     let (_, after) = want(Kind::Equal, closed)?;
     let (right, end, counts) = expression(alloc, after, fresh(counts))?;
-    Ok((copy_names(alloc, names.as_slice())?, right, end, counts))
+    Ok((token_names(alloc, names.as_slice())?, right, end, counts))
 }
 
-fn copy_names(alloc: Global, tokens: &[Token]) -> Result<Items<Name>, Fault>
+fn token_names(alloc: Global, tokens: &[Token]) -> Result<Items<Name>, Fault>
     ensures { MatchResult result (λ ns. ns ≡ names_of tokens.now) (λ e. e ≡ Fault.Memory) }
 {
     let mut all = Items::new(alloc);
     'tokens: for token in tokens {
-        all.push(copy(alloc, &token.name)?)?;
+        all.push(copy_name(alloc, &token.name)?)?;
     }
     Ok(all)
 }
@@ -169,7 +169,7 @@ fn one_name(alloc: Global, token: &Token) -> Result<Items<Name>, Fault>
     ensures { MatchResult result (λ ns. ns ≡ token.now.name ∷ []) (λ e. e ≡ Fault.Memory) }
 {
     let mut all = Items::new(alloc);
-    all.push(copy(alloc, &token.name)?)?;
+    all.push(copy_name(alloc, &token.name)?)?;
     Ok(all)
 }
 
@@ -397,7 +397,7 @@ fn state(
     let (word, rest) = want(Kind::State, tokens)?;
     let (title, rest) = want(Kind::Upper, rest)?;
     let (_, after) = want(Kind::Do, rest)?;
-    let name = copy(alloc, &title.name)?;
+    let name = copy_name(alloc, &title.name)?;
     let (block, rest, counts) = block(alloc, after, counts)?;
     let (weak, strong, rest, counts) = transitions(alloc, rest, counts)?;
     let place = word.place;

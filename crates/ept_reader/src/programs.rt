@@ -1,14 +1,15 @@
 //! Reads the tokens of programs.
 ghost use Rattle.std.specs.Prelude.{◌≡◌, ◌<◌, ◌∷◌, [], length, IfErr, IfOk, MatchResult};
-ghost use Rattle.ept_reader.specs.Grammar.{Constructor_list, Input_list, Interface, Item, Node_body, Node_dec, Output_list, Type_dec, Value, Whole};
-ghost use Rattle.ept_reader.specs.Reading.{Fails, Reads, first, look, may_begin};
-ghost use Rattle.ept_reader.specs.Text.{IsRefused, IsText, RefusesExactly};
+ghost use Rattle.ept_grammar.specs.Grammar.{Constructor_list, Input_list, Interface, Item, Node_body, Node_dec, Output_list, Type_dec, Value, Whole};
+ghost use Rattle.ept_grammar.specs.Reading.{Fails, Reads, first, look, may_begin};
+ghost use Rattle.ept_grammar.specs.Text.{IsRefused, IsText, RefusesExactly};
 
 use crate::declarations::{decls, inputs, locals};
 use crate::equations::equations;
-use crate::look_ahead::{copy, take, want};
-use crate::token::{Counts, Fault, Kind, Token};
-use hept_ast::{Block, Decl, Name, Node, Program, TypeDec};
+use ept_grammar::{Counts, Fault};
+use ept_steps::{take, want};
+use ept_tokens::{Kind, Token};
+use hept_ast::{Block, Decl, Name, Node, Program, TypeDec, copy_name};
 use sqlite_items::Items;
 use std::alloc::Global;
 
@@ -23,10 +24,10 @@ fn constructors(
 {
     let (first, mut rest) = want(Kind::Upper, tokens)?;
     let mut all = Items::new(alloc);
-    all.push(copy(alloc, &first.name)?)?;
+    all.push(copy_name(alloc, &first.name)?)?;
     'more: while let Some((_, after)) = take(Kind::Bar, rest) {
         let (next, end) = want(Kind::Upper, after)?;
-        all.push(copy(alloc, &next.name)?)?;
+        all.push(copy_name(alloc, &next.name)?)?;
         rest = end;
     }
     Ok((all, rest, counts))
@@ -44,7 +45,7 @@ fn type_dec(
     let (title, rest) = want(Kind::Lower, rest)?;
     let (_, after) = want(Kind::Equal, rest)?;
     let (constructors, end, counts) = constructors(alloc, after, counts)?;
-    let name = copy(alloc, &title.name)?;
+    let name = copy_name(alloc, &title.name)?;
     let place = word.place;
     let dec = TypeDec {
         place,
@@ -121,7 +122,7 @@ fn node(alloc: Global, tokens: &[Token], counts: Counts) -> Result<(Node, &[Toke
     let (title, rest) = want(Kind::Lower, rest)?;
     let (inputs, outputs, rest, counts) = interface(alloc, rest, counts)?;
     let (block, end, counts) = node_body(alloc, rest, counts)?;
-    let name = copy(alloc, &title.name)?;
+    let name = copy_name(alloc, &title.name)?;
     let place = word.place;
     let node = Node {
         place,

@@ -4,9 +4,9 @@ ghost use Rattle.ept_reader.specs.Spelling.{IsProgramText, IsRefusalOf, AnswersS
 ghost use Rattle.hept_ast.specs.declared.tree.Program.{Program as ProgramTree};
 ghost use Rattle.ept_reader.specs.declared.reader.ReadFault.{ReadFault as AnyFault};
 
-use crate::cutter::{CutFault, cut};
 use crate::programs::read_tokens;
-use crate::token::{Fault, Token};
+use ept_grammar::Fault;
+use ept_tokens::{CutFault, Token, cut};
 use hept_ast::{Place, Program};
 use std::alloc::Global;
 

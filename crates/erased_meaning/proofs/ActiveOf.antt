@@ -8,21 +8,22 @@ use Rattle.hept_ast.specs.declared.tree.Node.{Node}
 use Rattle.hept_ast.specs.declared.tree.Block.{Block}
 use Rattle.hept_ast.specs.declared.tree.State.{State}
 use Rattle.std.specs.Borrow.{Bor}
-use Rattle.erased_meaning.specs.declared.paths.Step.{Step}
-use Rattle.erased_meaning.specs.declared.paths.Step.TheVariants as way
-use Rattle.erased_meaning.specs.declared.questions.Asked.{Asked}
-use Rattle.erased_meaning.specs.declared.questions.Asked.TheVariants as asked_of
-use Rattle.erased_meaning.specs.declared.questions.Answer.{Answer}
-use Rattle.erased_meaning.specs.declared.questions.Answer.TheVariants as answer
-use Rattle.erased_meaning.specs.declared.answers.Answers.{Answers}
-use Rattle.erased_meaning.specs.Parts.{states_at}
-use Rattle.erased_meaning.specs.Things.{Thing, In, At, part, body_of}
-use Rattle.erased_meaning.specs.Asking.{HasAnswer, answer_of, question_of}
-use Rattle.erased_meaning.specs.Tables.{AnswerAt, Gets, IsScopeAt, RuleGives, ScopeRuleGives, setting_in, thing_in}
-use Rattle.erased_meaning.proofs.Shown.{thing_more}
+use Rattle.answer_table.specs.declared.paths.Step.{Step}
+use Rattle.answer_table.specs.declared.paths.Step.TheVariants as way
+use Rattle.answer_table.specs.declared.questions.Asked.{Asked}
+use Rattle.answer_table.specs.declared.questions.Asked.TheVariants as asked_of
+use Rattle.answer_table.specs.declared.questions.Answer.{Answer}
+use Rattle.answer_table.specs.declared.questions.Answer.TheVariants as answer
+use Rattle.answer_table.specs.declared.answers.Answers.{Answers}
+use Rattle.answer_table.specs.Parts.{states_at}
+use Rattle.answer_table.specs.Things.{Thing, In, At, part, body_of}
+use Rattle.answer_table.specs.Asking.{HasAnswer, answer_of, question_of}
+use Rattle.answer_table.specs.Tables.{AnswerAt, Gets, IsScopeAt, RuleGives, setting_in, thing_in}
+use Rattle.erased_meaning.specs.Rules.{ScopeRuleGives}
+use Rattle.answer_table.proofs.Shown.{same_in, thing_more}
 use Rattle.erased_meaning.proofs.Following.{answer_gives}
 use Rattle.erased_meaning.proofs.ExpressionsOf.{from_rule}
-use Rattle.erased_meaning.proofs.ScopeSteps.{IsBodyOf, IsStateOf, IsCalledBy, body_step, state_step, callee_step, same_in}
+use Rattle.erased_meaning.proofs.ScopeSteps.{IsBodyOf, IsStateOf, IsCalledBy, body_step, state_step, callee_step}
 
 -- what is asked of this thing
 pub answer_of_thing : (s : Answers) (path : List Step) (thing : Thing) (what : Asked) (t : ℕ) (r : Answer) → thing_in s path ≡ thing → AnswerAt s path what t r →

@@ -9,15 +9,16 @@ use Rattle.hept_ast.specs.declared.tree.Node.{Node}
 use Rattle.hept_ast.specs.declared.tree.Block.{Block}
 use Rattle.hept_ast.specs.declared.tree.State.{State}
 use Rattle.std.specs.Borrow.{Bor}
-use Rattle.erased_meaning.specs.declared.paths.Step.{Step}
-use Rattle.erased_meaning.specs.declared.questions.Asked.TheVariants as asked_of
-use Rattle.erased_meaning.specs.declared.questions.Answer.{Answer}
-use Rattle.erased_meaning.specs.declared.questions.Answer.TheVariants as answer
-use Rattle.erased_meaning.specs.declared.answers.Answers.{Answers}
-use Rattle.erased_meaning.specs.Parts.{states_at}
-use Rattle.erased_meaning.specs.Things.{Thing, In}
-use Rattle.erased_meaning.specs.Asking.{HasAnswer, answer_of, question_of}
-use Rattle.erased_meaning.specs.Tables.{AnswerAt, Gets, GoesTo, IsScopeAt, RuleGives, Tests, Went, setting_in, thing_in}
+use Rattle.answer_table.specs.declared.paths.Step.{Step}
+use Rattle.answer_table.specs.declared.questions.Asked.TheVariants as asked_of
+use Rattle.answer_table.specs.declared.questions.Answer.{Answer}
+use Rattle.answer_table.specs.declared.questions.Answer.TheVariants as answer
+use Rattle.answer_table.specs.declared.answers.Answers.{Answers}
+use Rattle.answer_table.specs.Parts.{states_at}
+use Rattle.answer_table.specs.Things.{Thing, In}
+use Rattle.answer_table.specs.Asking.{HasAnswer, answer_of, question_of}
+use Rattle.answer_table.specs.Tables.{AnswerAt, Gets, IsScopeAt, RuleGives, setting_in, thing_in}
+use Rattle.erased_meaning.specs.Rules.{GoesTo, Tests, Went}
 use Rattle.erased_meaning.specs.Pending.{IsPending, StrongGives, WeakGives}
 use Rattle.erased_meaning.proofs.ExpressionsOf.{from_rule}
 use Rattle.erased_meaning.proofs.ActiveOf.{answer_of_thing, asked_states}

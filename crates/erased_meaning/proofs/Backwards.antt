@@ -6,14 +6,15 @@ use Rattle.hept_ast.specs.Meaning as meaning
 use Rattle.hept_ast.specs.Outputs.{said}
 use Rattle.hept_ast.specs.declared.tree.Expr.{Expr}
 use Rattle.hept_ast.specs.declared.tree.Form.TheOpen.{Form-F}
-use Rattle.erased_meaning.specs.declared.paths.Step.{Step}
-use Rattle.erased_meaning.specs.declared.questions.Asked.TheVariants as asked_of
-use Rattle.erased_meaning.specs.declared.questions.Answer.{Answer}
-use Rattle.erased_meaning.specs.declared.questions.Answer.TheVariants as answer
-use Rattle.erased_meaning.specs.declared.answers.Answers.{Answers}
-use Rattle.erased_meaning.specs.Things.{Thing, At}
-use Rattle.erased_meaning.specs.Asking.{question_of}
-use Rattle.erased_meaning.specs.Tables.{FormGives, GoesTo, IsScopeOfPath, OperandGets, Went, setting_in, thing_in}
+use Rattle.answer_table.specs.declared.paths.Step.{Step}
+use Rattle.answer_table.specs.declared.questions.Asked.TheVariants as asked_of
+use Rattle.answer_table.specs.declared.questions.Answer.{Answer}
+use Rattle.answer_table.specs.declared.questions.Answer.TheVariants as answer
+use Rattle.answer_table.specs.declared.answers.Answers.{Answers}
+use Rattle.answer_table.specs.Things.{Thing, At}
+use Rattle.answer_table.specs.Asking.{question_of}
+use Rattle.answer_table.specs.Tables.{IsScopeOfPath, setting_in, thing_in}
+use Rattle.erased_meaning.specs.Rules.{FormGives, GoesTo, OperandGets, Went}
 use Rattle.erased_meaning.proofs.Following.{answer_gives}
 use Rattle.erased_meaning.proofs.FormsOf.{of_form}
 

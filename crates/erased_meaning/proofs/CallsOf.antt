@@ -17,21 +17,22 @@ use Rattle.hept_ast.specs.declared.tree.Decl.{Decl}
 use Rattle.std.specs.Borrow.{Bor}
 use Rattle.std.specs.Option.{option_map}
 use Rattle.std.proofs.lemmas.Option.{get_or_from_slice_get, slice_get-map}
-use Rattle.erased_meaning.specs.declared.paths.Step.{Step}
-use Rattle.erased_meaning.specs.declared.paths.Step.TheVariants as way
-use Rattle.erased_meaning.specs.declared.paths.View.TheVariants as seen
-use Rattle.erased_meaning.specs.declared.questions.Asked.TheVariants as asked_of
-use Rattle.erased_meaning.specs.declared.questions.Answer.{Answer}
-use Rattle.erased_meaning.specs.declared.questions.Answer.TheVariants as answer
-use Rattle.erased_meaning.specs.declared.answers.Answers.{Answers}
-use Rattle.erased_meaning.specs.Things.{Thing, In, At, Shows, callee_thing, expression_thing, operand_clock, part}
-use Rattle.erased_meaning.specs.Parts.{operand_of}
-use Rattle.erased_meaning.specs.Asking.{HasAnswer, answer_of, question_of}
-use Rattle.erased_meaning.specs.Tables.{AnswerAt, AreAsked, IsExpressionAt, RuleGives, Tests, setting_in, thing_in}
+use Rattle.answer_table.specs.declared.paths.Step.{Step}
+use Rattle.answer_table.specs.declared.paths.Step.TheVariants as way
+use Rattle.answer_table.specs.declared.paths.View.TheVariants as seen
+use Rattle.answer_table.specs.declared.questions.Asked.TheVariants as asked_of
+use Rattle.answer_table.specs.declared.questions.Answer.{Answer}
+use Rattle.answer_table.specs.declared.questions.Answer.TheVariants as answer
+use Rattle.answer_table.specs.declared.answers.Answers.{Answers}
+use Rattle.answer_table.specs.Things.{Thing, In, At, Shows, callee_thing, expression_thing, operand_clock, part}
+use Rattle.answer_table.specs.Parts.{operand_of}
+use Rattle.answer_table.specs.Asking.{HasAnswer, answer_of, question_of}
+use Rattle.answer_table.specs.Tables.{AnswerAt, IsExpressionAt, RuleGives, setting_in, thing_in}
+use Rattle.erased_meaning.specs.Rules.{AreAsked, Tests}
 use Rattle.erased_meaning.specs.CallRules.{CallGives, CountsOn, IsCounted}
-use Rattle.erased_meaning.proofs.Shown.{thing_more}
+use Rattle.answer_table.proofs.Shown.{thing_more}
 use Rattle.erased_meaning.proofs.Following.{answer_gives, asked_further}
-use Rattle.erased_meaning.proofs.ExpressionsOf.{from_rule}
+use Rattle.erased_meaning.proofs.ExpressionsOf.{asked_present, from_rule}
 
 -- ---- earlier instants
 
@@ -48,10 +49,6 @@ counts_more s path present at t b asked below h on go a k =
     on go a (subst (λ (n : ℕ). RuleGives s (count_before present (λ m. go) n) a) (below_one at below) (one_more s path present (at - 1) b asked h go a k))
 
 -- ---- the called body
-
-asked_present : (s : Answers) (path : List Step) (t : ℕ) (e : Expr) (clock : Clock) (scope : Scope) → thing_in s path ≡ At e clock scope →
-    question_of (setting_in s) (thing_in s path) asked_of.Present t ≡ Some (Present clock scope t)
-asked_present s path t e clock scope is = ap (λ (thing : Thing). question_of (setting_in s) thing asked_of.Present t) is
 
 -- the name of a declaration at a position
 pub name_at : (ds : List Decl) (j : ℕ) (d : Decl) → slice_get ds j ≡ Some d → slice_index_or (names ds) j [] ≡ d.name

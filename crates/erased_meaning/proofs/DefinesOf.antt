@@ -11,13 +11,14 @@ use Rattle.hept_ast.specs.Meaning.{Defines, Rule, if_defined, test}
 use Rattle.hept_ast.specs.declared.tree.Node.{Node}
 use Rattle.hept_ast.specs.declared.tree.Block.{Block}
 use Rattle.hept_ast.specs.declared.tree.Equation.{Equation}
-use Rattle.erased_meaning.specs.declared.paths.Step.{Step}
-use Rattle.erased_meaning.specs.declared.questions.Asked.TheVariants as asked_of
-use Rattle.erased_meaning.specs.declared.questions.Answer.{Answer}
-use Rattle.erased_meaning.specs.declared.answers.Answers.{Answers}
-use Rattle.erased_meaning.specs.Things.{Thing, In}
-use Rattle.erased_meaning.specs.Asking.{question_of}
-use Rattle.erased_meaning.specs.Tables.{BlockDefines, IsScopeAt, RuleGives, Tests, TestsDefined, setting_in, thing_in}
+use Rattle.answer_table.specs.declared.paths.Step.{Step}
+use Rattle.answer_table.specs.declared.questions.Asked.TheVariants as asked_of
+use Rattle.answer_table.specs.declared.questions.Answer.{Answer}
+use Rattle.answer_table.specs.declared.answers.Answers.{Answers}
+use Rattle.answer_table.specs.Things.{Thing, In}
+use Rattle.answer_table.specs.Asking.{question_of}
+use Rattle.answer_table.specs.Tables.{IsScopeAt, RuleGives, setting_in, thing_in}
+use Rattle.erased_meaning.specs.Rules.{BlockDefines, Tests, TestsDefined}
 use Rattle.erased_meaning.specs.Equations.{HasBlock}
 
 pub in_same : (a b : Scope) → In a ≡ In b → a ≡ b

@@ -16,18 +16,19 @@ use Rattle.hept_ast.specs.declared.tree.Branch.{Branch}
 use Rattle.hept_ast.specs.declared.tree.State.{State}
 use Rattle.hept_ast.specs.declared.tree.Equation.{Equation, out-Equation}
 use Rattle.hept_ast.specs.declared.tree.Equation.TheOpen.{Equation-F}
-use Rattle.erased_meaning.specs.declared.paths.Step.{Step}
-use Rattle.erased_meaning.specs.declared.paths.Step.TheVariants as way
-use Rattle.erased_meaning.specs.declared.questions.Asked.TheVariants as asked_of
-use Rattle.erased_meaning.specs.declared.questions.Answer.TheVariants as answer
-use Rattle.erased_meaning.specs.declared.answers.Answers.{Answers}
+use Rattle.answer_table.specs.declared.paths.Step.{Step}
+use Rattle.answer_table.specs.declared.paths.Step.TheVariants as way
+use Rattle.answer_table.specs.declared.questions.Asked.TheVariants as asked_of
+use Rattle.answer_table.specs.declared.questions.Answer.TheVariants as answer
+use Rattle.answer_table.specs.declared.answers.Answers.{Answers}
 use Rattle.erased_meaning.specs.Found.{IsPlaceIn}
-use Rattle.erased_meaning.specs.Parts.{An_equation, and_then, branches_in, states_in, body_in, on_in, every_in, branch_at, body_at}
-use Rattle.erased_meaning.specs.Things.{Thing, In, branch_thing, body_thing, state_thing, part}
-use Rattle.erased_meaning.specs.Asking.{question_of}
-use Rattle.erased_meaning.specs.Tables.{AnswerAt, BlockDefines, IsScopeAt, RuleGives, TestsDefined, setting_in, thing_in}
+use Rattle.answer_table.specs.Parts.{An_equation, and_then, branches_in, states_in, body_in, on_in, every_in, branch_at, body_at}
+use Rattle.answer_table.specs.Things.{Thing, In, branch_thing, body_thing, state_thing, part}
+use Rattle.answer_table.specs.Asking.{question_of}
+use Rattle.answer_table.specs.Tables.{AnswerAt, IsScopeAt, RuleGives, setting_in, thing_in}
+use Rattle.erased_meaning.specs.Rules.{BlockDefines, TestsDefined}
 use Rattle.erased_meaning.specs.Equations.{AreBranchesAt, AreStatesAt, EquationDefines, equation_in}
-use Rattle.erased_meaning.proofs.Shown.{not_none, same_some, thing_more}
+use Rattle.answer_table.proofs.Shown.{not_none, same_some, thing_more}
 use Rattle.erased_meaning.proofs.ExpressionsOf.{from_rule}
 use Rattle.erased_meaning.proofs.DefinesOf.{block_is, has_defined, next_of, part_true, part_false}
 

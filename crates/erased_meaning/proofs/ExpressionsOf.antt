@@ -15,17 +15,16 @@ use Rattle.hept_ast.specs.declared.tree.MergeBranch.{MergeBranch}
 use Rattle.hept_ast.specs.declared.tree.Form.{out-Form}
 use Rattle.hept_ast.specs.declared.tree.Form.TheOpen.{Form-F}
 use Rattle.std.specs.Borrow.{Bor}
-use Rattle.erased_meaning.specs.declared.paths.Step.{Step}
-use Rattle.erased_meaning.specs.declared.questions.Asked.{Asked}
-use Rattle.erased_meaning.specs.declared.questions.Asked.TheVariants as asked_of
-use Rattle.erased_meaning.specs.declared.questions.Answer.{Answer}
-use Rattle.erased_meaning.specs.declared.questions.Answer.TheVariants as answer
-use Rattle.erased_meaning.specs.declared.answers.Answers.{Answers}
-use Rattle.erased_meaning.specs.declared.paths.View.TheVariants as seen
-use Rattle.hept_ast.specs.declared.tree.Node.{Node}
-use Rattle.erased_meaning.specs.Things.{Thing, In, At, Nowhere, Shows, merge_clock}
-use Rattle.erased_meaning.specs.Asking.{HasAnswer, answer_of, question_of}
-use Rattle.erased_meaning.specs.Tables.{AnswerAt, FormGives, Gets, IsExpressionAt, IsScopeOfPath, IsValueAnswer, OperandGets, RuleGives, Tests, setting_in, thing_in}
+use Rattle.answer_table.specs.declared.paths.Step.{Step}
+use Rattle.answer_table.specs.declared.questions.Asked.{Asked}
+use Rattle.answer_table.specs.declared.questions.Asked.TheVariants as asked_of
+use Rattle.answer_table.specs.declared.questions.Answer.{Answer}
+use Rattle.answer_table.specs.declared.questions.Answer.TheVariants as answer
+use Rattle.answer_table.specs.declared.answers.Answers.{Answers}
+use Rattle.answer_table.specs.Things.{Thing, In, At, merge_clock}
+use Rattle.answer_table.specs.Asking.{HasAnswer, answer_of, question_of}
+use Rattle.answer_table.specs.Tables.{AnswerAt, Gets, IsExpressionAt, IsScopeOfPath, RuleGives, setting_in, thing_in}
+use Rattle.erased_meaning.specs.Rules.{FormGives, IsValueAnswer, OperandGets, Tests}
 use Rattle.erased_meaning.proofs.Following.{answer_gives, value_gives, absent_gives, nil_gives}
 use Rattle.erased_meaning.proofs.FormsOf.{of_form}
 
@@ -35,15 +34,6 @@ is_answer answer.Nil = λ h. cc
 is_answer (answer.Value v) = λ h. cc
 is_answer (answer.Is b) = λ h. cc
 is_answer (answer.StateAt k m) = λ h. cc
-
--- what shows an expression is one
-shown_at : (thing : Thing) (number : ℕ) (node : Bor Node) (expr : Bor Expr) → Shows thing (seen.Expression number node expr) → (clock : Clock) × (scope : Scope) × (thing ≡ At expr.now clock scope)
-shown_at (In s) number node expr h = absurd h
-shown_at (At e clock s) number node expr h = (clock, s, ap (λ (x : Expr). At x clock s) h.1)
-shown_at Nowhere number node expr h = absurd h
-
-pub shown_expression : (s : Answers) (path : List Step) (number : ℕ) (node : Bor Node) (expr : Bor Expr) → Shows (thing_in s path) (seen.Expression number node expr) → IsExpressionAt s path expr.now
-shown_expression s path number node expr h = shown_at (thing_in s path) number node expr h
 
 -- the answer of a question is what its rule comes to
 pub from_rule : (s : Answers) (path : List Step) (what : Asked) (t : ℕ) (q : Question) (r : Answer) →
@@ -63,7 +53,8 @@ of_expression : (s : Answers) (path : List Step) (what : Asked) (t : ℕ) (r : A
 of_expression s path what t r h e clock sc is =
     subst (λ (thing : Thing). HasAnswer s.accepted.now s.rows.now (question_of (setting_in s) thing what t) (answer_of r)) is h
 
-asked_present : (s : Answers) (path : List Step) (t : ℕ) (e : Expr) (clock : Clock) (sc : Scope) → thing_in s path ≡ At e clock sc →
+-- whether an expression is present is this question
+pub asked_present : (s : Answers) (path : List Step) (t : ℕ) (e : Expr) (clock : Clock) (sc : Scope) → thing_in s path ≡ At e clock sc →
     question_of (setting_in s) (thing_in s path) asked_of.Present t ≡ Some (Present clock sc t)
 asked_present s path t e clock sc is = ap (λ (thing : Thing). question_of (setting_in s) thing asked_of.Present t) is
 

@@ -4,17 +4,18 @@ use Rattle.hept_ast.specs.Meaning.{Question, Rule, Says, answer_to, test, on_val
 use Rattle.hept_ast.specs.Outputs.{said, asked}
 use Rattle.hept_ast.specs.declared.tree.Expr.{Expr}
 use Rattle.hept_ast.specs.declared.tree.Form.{out-Form}
-use Rattle.erased_meaning.specs.declared.paths.Step.{Step}
-use Rattle.erased_meaning.specs.declared.paths.Step.TheVariants as way
-use Rattle.erased_meaning.specs.declared.questions.Asked.{Asked}
-use Rattle.erased_meaning.specs.declared.questions.Asked.TheVariants as asked_of
-use Rattle.erased_meaning.specs.declared.questions.Answer.{Answer}
-use Rattle.erased_meaning.specs.declared.questions.Answer.TheVariants as answer
-use Rattle.erased_meaning.specs.declared.answers.Answers.{Answers}
-use Rattle.erased_meaning.specs.Things.{Thing, part, expression_thing, operand_clock}
-use Rattle.erased_meaning.specs.Asking.{HasAnswer, answer_of, question_of}
-use Rattle.erased_meaning.specs.Tables.{AnswerAt, Gets, OperandGets, RuleGives, Tests, setting_in, thing_in}
-use Rattle.erased_meaning.proofs.Shown.{thing_more}
+use Rattle.answer_table.specs.declared.paths.Step.{Step}
+use Rattle.answer_table.specs.declared.paths.Step.TheVariants as way
+use Rattle.answer_table.specs.declared.questions.Asked.{Asked}
+use Rattle.answer_table.specs.declared.questions.Asked.TheVariants as asked_of
+use Rattle.answer_table.specs.declared.questions.Answer.{Answer}
+use Rattle.answer_table.specs.declared.questions.Answer.TheVariants as answer
+use Rattle.answer_table.specs.declared.answers.Answers.{Answers}
+use Rattle.answer_table.specs.Things.{Thing, part, expression_thing, operand_clock}
+use Rattle.answer_table.specs.Asking.{HasAnswer, answer_of, question_of}
+use Rattle.answer_table.specs.Tables.{AnswerAt, Gets, RuleGives, setting_in, thing_in}
+use Rattle.erased_meaning.specs.Rules.{OperandGets, Tests}
+use Rattle.answer_table.proofs.Shown.{thing_more}
 
 -- what is asked one step further is asked of what the step leads to
 pub asked_further : (s : Answers) (path : List Step) (step : Step) (q : Asked) (t : ℕ) (a : Answer) →

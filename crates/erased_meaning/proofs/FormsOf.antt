@@ -11,13 +11,14 @@ use Rattle.hept_ast.specs.declared.tree.Expr.{Expr}
 use Rattle.hept_ast.specs.declared.tree.MergeBranch.{MergeBranch}
 use Rattle.hept_ast.specs.declared.tree.Form.{Form, out-Form}
 use Rattle.hept_ast.specs.declared.tree.Form.TheOpen.{Form-F}
-use Rattle.erased_meaning.specs.declared.paths.Step.{Step}
-use Rattle.erased_meaning.specs.declared.questions.Answer.{Answer}
-use Rattle.erased_meaning.specs.declared.questions.Answer.TheVariants as answer
-use Rattle.erased_meaning.specs.declared.answers.Answers.{Answers}
-use Rattle.erased_meaning.specs.Parts.{operand_of}
-use Rattle.erased_meaning.specs.Things.{At, operand_clock}
-use Rattle.erased_meaning.specs.Tables.{FormGives, Gets, OperandGets, thing_in}
+use Rattle.answer_table.specs.declared.paths.Step.{Step}
+use Rattle.answer_table.specs.declared.questions.Answer.{Answer}
+use Rattle.answer_table.specs.declared.questions.Answer.TheVariants as answer
+use Rattle.answer_table.specs.declared.answers.Answers.{Answers}
+use Rattle.answer_table.specs.Parts.{operand_of}
+use Rattle.answer_table.specs.Things.{At, operand_clock}
+use Rattle.answer_table.specs.Tables.{Gets, thing_in}
+use Rattle.erased_meaning.specs.Rules.{FormGives, OperandGets}
 use Rattle.erased_meaning.proofs.Following.{value_gives, absent_gives, nil_gives}
 
 -- what follows the operands

@@ -1,11 +1,11 @@
 -- Where a search for the previous instant goes.
 use Rattle.std.proofs.Common.{◌≡◌, ℕ, suc, ◌-◌, ◌<◌, Bool, true, false, List, Option, Some, None, if◌then◌else◌, subst, arith}
 use Rattle.hept_ast.specs.Meaning.{Question, Rule, previous, test}
-use Rattle.erased_meaning.specs.declared.paths.Step.{Step}
-use Rattle.erased_meaning.specs.declared.questions.Asked.{Asked}
-use Rattle.erased_meaning.specs.declared.questions.Asked.TheVariants as asked_of
-use Rattle.erased_meaning.specs.declared.answers.Answers.{Answers}
-use Rattle.erased_meaning.specs.Tables.{AreAsked, GoesTo, Tests}
+use Rattle.answer_table.specs.declared.paths.Step.{Step}
+use Rattle.answer_table.specs.declared.questions.Asked.{Asked}
+use Rattle.answer_table.specs.declared.questions.Asked.TheVariants as asked_of
+use Rattle.answer_table.specs.declared.answers.Answers.{Answers}
+use Rattle.erased_meaning.specs.Rules.{AreAsked, GoesTo, Tests}
 
 below_one : (at : ℕ) → 0 < at → suc (at - 1) ≡ at
 below_one at h = omega arith

@@ -6,15 +6,16 @@ use Rattle.hept_ast.specs.Scopes.{Scope}
 use Rattle.hept_ast.specs.Meaning.{Says, is_value, steps_hold}
 use Rattle.hept_ast.specs.Meaning as meaning
 use Rattle.hept_ast.specs.Outputs.{said, asked}
-use Rattle.erased_meaning.specs.declared.paths.Held.{Held}
-use Rattle.erased_meaning.specs.declared.paths.Step.{Step}
-use Rattle.erased_meaning.specs.declared.questions.Asked.TheVariants as asked_of
-use Rattle.erased_meaning.specs.declared.questions.Answer.{Answer}
-use Rattle.erased_meaning.specs.declared.questions.Answer.TheVariants as answer
-use Rattle.erased_meaning.specs.declared.answers.Answers.{Answers}
-use Rattle.erased_meaning.specs.Things.{Thing, In}
-use Rattle.erased_meaning.specs.Asking.{HasAnswer, answer_of, question_of}
-use Rattle.erased_meaning.specs.Tables.{AnswerAt, RuleGives, StepsHold, held_clock, setting_in, thing_in}
+use Rattle.answer_table.specs.declared.paths.Held.{Held}
+use Rattle.answer_table.specs.declared.paths.Step.{Step}
+use Rattle.answer_table.specs.declared.questions.Asked.TheVariants as asked_of
+use Rattle.answer_table.specs.declared.questions.Answer.{Answer}
+use Rattle.answer_table.specs.declared.questions.Answer.TheVariants as answer
+use Rattle.answer_table.specs.declared.answers.Answers.{Answers}
+use Rattle.answer_table.specs.Things.{Thing, In}
+use Rattle.answer_table.specs.Asking.{HasAnswer, answer_of, question_of}
+use Rattle.answer_table.specs.Tables.{AnswerAt, RuleGives, held_clock, setting_in, thing_in}
+use Rattle.erased_meaning.specs.Rules.{StepsHold}
 
 -- what the steps from i on come to, the steps of the clock come to
 abbrev pub HoldsFrom : Answers → List Step → List Held → ℕ → (i : ℕ) → Type 0

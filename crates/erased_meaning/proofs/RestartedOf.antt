@@ -10,19 +10,20 @@ use Rattle.hept_ast.specs.declared.tree.Node.{Node}
 use Rattle.hept_ast.specs.declared.tree.Block.{Block}
 use Rattle.hept_ast.specs.declared.tree.Branch.{Branch}
 use Rattle.std.specs.Borrow.{Bor}
-use Rattle.erased_meaning.specs.declared.paths.Step.{Step}
-use Rattle.erased_meaning.specs.declared.paths.Step.TheVariants as way
-use Rattle.erased_meaning.specs.declared.questions.Asked.TheVariants as asked_of
-use Rattle.erased_meaning.specs.declared.questions.Answer.{Answer}
-use Rattle.erased_meaning.specs.declared.questions.Answer.TheVariants as answer
-use Rattle.erased_meaning.specs.declared.answers.Answers.{Answers}
-use Rattle.erased_meaning.specs.Parts.{branch_at}
-use Rattle.erased_meaning.specs.Things.{Thing, In, part, base_thing}
-use Rattle.erased_meaning.specs.Asking.{HasAnswer, answer_of, question_of}
-use Rattle.erased_meaning.specs.Tables.{AnswerAt, Gets, IsScopeAt, IsScopeOfPath, RuleGives, ScopeRuleGives, Tests, setting_in, thing_in}
-use Rattle.erased_meaning.proofs.Shown.{same_some}
+use Rattle.answer_table.specs.declared.paths.Step.{Step}
+use Rattle.answer_table.specs.declared.paths.Step.TheVariants as way
+use Rattle.answer_table.specs.declared.questions.Asked.TheVariants as asked_of
+use Rattle.answer_table.specs.declared.questions.Answer.{Answer}
+use Rattle.answer_table.specs.declared.questions.Answer.TheVariants as answer
+use Rattle.answer_table.specs.declared.answers.Answers.{Answers}
+use Rattle.answer_table.specs.Parts.{branch_at}
+use Rattle.answer_table.specs.Things.{Thing, In, part, base_thing}
+use Rattle.answer_table.specs.Asking.{HasAnswer, answer_of, question_of}
+use Rattle.answer_table.specs.Tables.{AnswerAt, Gets, IsScopeAt, IsScopeOfPath, RuleGives, setting_in, thing_in}
+use Rattle.erased_meaning.specs.Rules.{ScopeRuleGives, Tests}
+use Rattle.answer_table.proofs.Shown.{same_in, same_some}
 use Rattle.erased_meaning.proofs.Following.{answer_gives, asked_further}
-use Rattle.erased_meaning.proofs.ScopeSteps.{IsBranchOf, IsBodyOf, IsStateOf, IsCalledBy, branch_step, body_step, state_step, callee_step, same_in}
+use Rattle.erased_meaning.proofs.ScopeSteps.{IsBranchOf, IsBodyOf, IsStateOf, IsCalledBy, branch_step, body_step, state_step, callee_step}
 use Rattle.erased_meaning.proofs.ActiveOf.{answer_of_thing, asked_states, further, restarted_here}
 
 module _ (s : Answers) (outer : List Step) (t : ℕ) where

@@ -15,7 +15,7 @@ use Rattle.accepted_meaning.specs.Laws.{AcceptedHasOutputs}
 use Rattle.accepted_meaning.specs.Ranges.{IsInRange}
 use Rattle.accepted_meaning.specs.Placing.{RepliesFit}
 use Rattle.accepted_meaning.proofs.TextLists.{no_some}
-use Rattle.erased_meaning.specs.Things.{setting_of}
+use Rattle.answer_table.specs.Things.{setting_of}
 use Rattle.erased_meaning.specs.ErasedRows.{setting_of_erased}
 use Rattle.erased_meaning.proofs.RowsOf.{rows_end, same_node}
 

@@ -9,9 +9,9 @@ use Rattle.hept_ast.specs.Outputs.{HaveValues, Knows, Outputs, OutputsFrom, outp
 use Rattle.hept_ast.specs.Stages.{ClockedProgram}
 use Rattle.hept_ast.specs.declared.tree.Decl.{Decl}
 use Rattle.hept_ast.specs.declared.tree.Node.{Node}
-use Rattle.erased_meaning.specs.declared.answers.Answers.{Answers}
-use Rattle.erased_meaning.specs.Things.{setting_of}
-use Rattle.erased_meaning.specs.Tables.{IsSameRun, setting_in}
+use Rattle.answer_table.specs.declared.answers.Answers.{Answers}
+use Rattle.answer_table.specs.Things.{setting_of}
+use Rattle.answer_table.specs.Tables.{IsSameRun, setting_in}
 
 -- a variable of the chosen node has this value
 abbrev pub Has : ClockedProgram → (rows : List (List ℕ)) → (top : ℕ) → Name → (t : ℕ) → (v : ℕ) → Type 0

@@ -1,14 +1,13 @@
 -- What the first equation of a block that defines a name says.
 use Rattle.std.proofs.Common.{◌≡◌, ℕ, suc, ◌+◌, ◌<◌, ◌==◌, ◌||◌, Bool, true, false, if◌then◌else◌, List, [], ◌∷◌, ◌++◌, length, drop, get_or, Option, Some, slice_get, refl, sym, ap, subst, ◌∙◌, arith}
 use Rattle.std.specs.Borrow.{Bor}
-use Rattle.std.specs.List.{find}
 use Rattle.std.specs.Option.{option_map}
 use Rattle.std.proofs.lemmas.Bool.{false≢true}
 use Rattle.std.proofs.lemmas.Bool.Decides.{nat_tests}
 use Rattle.std.proofs.lemmas.Option.{slice_get_read}
 use Rattle.std.proofs.lemmas.List.{drop_more}
 use Rattle.sound_expressions.proofs.Lists.{same_is}
-use Rattle.hept_ast.specs.Texts.{Name, branch_of, is_in, place_in, same, tag_value}
+use Rattle.hept_ast.specs.Texts.{Name, branch_of, is_in, place_in, same}
 use Rattle.hept_ast.specs.Scopes.{Clock, Scope, In_branch, In_body, In_state, Text, block_of}
 use Rattle.hept_ast.specs.Meaning.{Gives, Output, Defined, Last, Active_state, Rule, answer_to, block_rule, branch_rule, clock_seen, defined_rule, equation_rule}
 use Rattle.hept_ast.specs.Outputs.{said, asked}
@@ -21,18 +20,19 @@ use Rattle.hept_ast.specs.declared.tree.Branch.{Branch}
 use Rattle.hept_ast.specs.declared.tree.State.{State}
 use Rattle.hept_ast.specs.declared.tree.Equation.{Equation, out-Equation}
 use Rattle.hept_ast.specs.declared.tree.Equation.TheOpen.{Equation-F}
-use Rattle.erased_meaning.specs.declared.paths.Step.{Step}
-use Rattle.erased_meaning.specs.declared.paths.Step.TheVariants as way
-use Rattle.erased_meaning.specs.declared.questions.Asked.{Asked}
-use Rattle.erased_meaning.specs.declared.questions.Asked.TheVariants as asked_of
-use Rattle.erased_meaning.specs.declared.questions.Answer.{Answer}
-use Rattle.erased_meaning.specs.declared.questions.Answer.TheVariants as answer
-use Rattle.erased_meaning.specs.declared.answers.Answers.{Answers}
+use Rattle.answer_table.specs.declared.paths.Step.{Step}
+use Rattle.answer_table.specs.declared.paths.Step.TheVariants as way
+use Rattle.answer_table.specs.declared.questions.Asked.{Asked}
+use Rattle.answer_table.specs.declared.questions.Asked.TheVariants as asked_of
+use Rattle.answer_table.specs.declared.questions.Answer.{Answer}
+use Rattle.answer_table.specs.declared.questions.Answer.TheVariants as answer
+use Rattle.answer_table.specs.declared.answers.Answers.{Answers}
 use Rattle.erased_meaning.specs.Found.{IsPlaceIn}
-use Rattle.erased_meaning.specs.Parts.{An_equation, and_then, left_in, right_in, on_in, states_in, right_at}
-use Rattle.erased_meaning.specs.Things.{Thing, In, At, right_thing, base_thing}
-use Rattle.erased_meaning.specs.Asking.{HasAnswer, answer_of, question_of}
-use Rattle.erased_meaning.specs.Tables.{AnswerAt, BlockDefines, Gets, IsScopeAt, RuleGives, Tests, setting_in, thing_in}
+use Rattle.answer_table.specs.Parts.{An_equation, and_then, left_in, right_in, on_in, states_in, right_at}
+use Rattle.answer_table.specs.Things.{Thing, In, At, right_thing, base_thing}
+use Rattle.answer_table.specs.Asking.{HasAnswer, answer_of, question_of}
+use Rattle.answer_table.specs.Tables.{AnswerAt, Gets, IsScopeAt, RuleGives, setting_in, thing_in}
+use Rattle.erased_meaning.specs.Rules.{BlockDefines, Tests}
 use Rattle.erased_meaning.specs.Equations.{EquationGives, IsBranchOf, PartGives, equation_in}
 use Rattle.erased_meaning.proofs.Following.{answer_gives, value_gives, absent_gives, nil_gives}
 use Rattle.erased_meaning.proofs.ExpressionsOf.{from_rule}
@@ -40,20 +40,6 @@ use Rattle.erased_meaning.proofs.DefinesOf.{TestsOne, block_is, tested}
 use Rattle.erased_meaning.proofs.EquationsOf.{body_there, branch_there, equation_is, further, seen, state_there}
 
 -- ---- searches
-
-first_found : (p : Branch → Bool) (b : Branch) (rest : List Branch) → p b ≡ true → find p (b ∷ rest) ≡ Some b
-first_found p b rest h = ap (λ (x : Bool). if x then Some b else find p rest) h
-
--- the branch at a position where the search has come, if it has the value's tag
-pub found_branch : (types : List TypeDec) (value : ℕ) (branches : List Branch) (i : ℕ) (b : Branch) → i < length branches → b ≡ get_or branches i b → (tag_value types b.tag == value) ≡ true →
-    branch_of types value branches ≡ branch_of types value (drop i branches) → IsBranchOf types value branches i
-found_branch types value branches i b within is has searched = (
-  b,
-  slice_get_read branches (length branches) i b refl within is,
-  searched ∙ ap (λ (xs : List Branch). find (λ x. tag_value types x.tag == value) xs) (drop_more branches i b within) ∙
-      ap (λ (x : Branch). find (λ x. tag_value types x.tag == value) (x ∷ drop (i + 1) branches)) (sym is) ∙
-      first_found (λ x. tag_value types x.tag == value) b (drop (i + 1) branches) has,
-)
 
 add_one : (n : ℕ) → n + 1 ≡ suc n
 add_one n = omega arith

@@ -7,15 +7,10 @@ use Rattle.hept_ast.specs.declared.tree.Block.{Block}
 use Rattle.hept_ast.specs.declared.tree.Branch.{Branch}
 use Rattle.hept_ast.specs.declared.tree.State.{State}
 use Rattle.hept_ast.specs.declared.tree.Form.{out-Form}
-use Rattle.erased_meaning.specs.declared.paths.Step.TheVariants as way
-use Rattle.erased_meaning.specs.Parts.{states_at, branch_at, body_at, on_at, every_at}
-use Rattle.erased_meaning.specs.Things.{Thing, In, At, Nowhere, part, branch_thing, body_thing, state_thing, callee_thing}
-
-nowhere_in : (s : Scope) → Nowhere ≡ In s → ⊥
-nowhere_in s h = cc
-
-pub same_in : (a b : Scope) → In a ≡ In b → a ≡ b
-same_in a b h = cc
+use Rattle.answer_table.specs.declared.paths.Step.TheVariants as way
+use Rattle.answer_table.specs.Parts.{states_at, branch_at, body_at, on_at, every_at}
+use Rattle.answer_table.specs.Things.{Thing, In, At, Nowhere, part, branch_thing, body_thing, state_thing, callee_thing}
+use Rattle.answer_table.proofs.Shown.{nowhere_in, same_in}
 
 -- ---- the records
 

@@ -11,16 +11,16 @@ use Rattle.hept_ast.specs.Outputs.{said, asked}
 use Rattle.hept_ast.specs.declared.tree.Escape.{Escape}
 use Rattle.hept_ast.specs.declared.tree.State.{State}
 use Rattle.std.specs.Borrow.{Bor}
-use Rattle.erased_meaning.specs.declared.paths.Step.{Step}
-use Rattle.erased_meaning.specs.declared.paths.Step.TheVariants as way
-use Rattle.erased_meaning.specs.declared.questions.Asked.TheVariants as asked_of
-use Rattle.erased_meaning.specs.declared.questions.Answer.{Answer}
-use Rattle.erased_meaning.specs.declared.questions.Answer.TheVariants as answer
-use Rattle.erased_meaning.specs.declared.answers.Answers.{Answers}
-use Rattle.erased_meaning.specs.Parts.{and_then, states_at}
-use Rattle.erased_meaning.specs.Things.{Thing, In, At, part, base_thing, weak_thing}
-use Rattle.erased_meaning.specs.Asking.{HasAnswer, answer_of, question_of}
-use Rattle.erased_meaning.specs.Tables.{AnswerAt, Gets, RuleGives, setting_in, thing_in}
+use Rattle.answer_table.specs.declared.paths.Step.{Step}
+use Rattle.answer_table.specs.declared.paths.Step.TheVariants as way
+use Rattle.answer_table.specs.declared.questions.Asked.TheVariants as asked_of
+use Rattle.answer_table.specs.declared.questions.Answer.{Answer}
+use Rattle.answer_table.specs.declared.questions.Answer.TheVariants as answer
+use Rattle.answer_table.specs.declared.answers.Answers.{Answers}
+use Rattle.answer_table.specs.Parts.{and_then, states_at}
+use Rattle.answer_table.specs.Things.{Thing, In, At, part, base_thing, weak_thing}
+use Rattle.answer_table.specs.Asking.{HasAnswer, answer_of, question_of}
+use Rattle.answer_table.specs.Tables.{AnswerAt, Gets, RuleGives, setting_in, thing_in}
 use Rattle.erased_meaning.specs.Pending.{AutomatonGives, StrongGives, WeakGives}
 use Rattle.erased_meaning.proofs.Following.{asked_further}
 

@@ -19,23 +19,24 @@ use Rattle.hept_ast.specs.declared.tree.Expr.{Expr}
 use Rattle.hept_ast.specs.declared.tree.MergeBranch.{MergeBranch}
 use Rattle.hept_ast.specs.declared.tree.Form.{Form, out-Form}
 use Rattle.hept_ast.specs.declared.tree.Form.TheOpen.{Form-F}
-use Rattle.erased_meaning.specs.declared.paths.Step.{Step}
-use Rattle.erased_meaning.specs.declared.paths.Step.TheVariants as way
-use Rattle.erased_meaning.specs.declared.questions.Asked.{Asked}
-use Rattle.erased_meaning.specs.declared.questions.Asked.TheVariants as asked_of
-use Rattle.erased_meaning.specs.declared.questions.Answer.{Answer}
-use Rattle.erased_meaning.specs.declared.questions.Answer.TheVariants as answer
-use Rattle.erased_meaning.specs.declared.answers.Answers.{Answers}
-use Rattle.erased_meaning.specs.Asking.{HasAnswer, answer_of, question_of}
-use Rattle.erased_meaning.specs.HomePaths.{ends_inner, is_inner_step}
+use Rattle.answer_table.specs.declared.paths.Step.{Step}
+use Rattle.answer_table.specs.declared.paths.Step.TheVariants as way
+use Rattle.answer_table.specs.declared.questions.Asked.{Asked}
+use Rattle.answer_table.specs.declared.questions.Asked.TheVariants as asked_of
+use Rattle.answer_table.specs.declared.questions.Answer.{Answer}
+use Rattle.answer_table.specs.declared.questions.Answer.TheVariants as answer
+use Rattle.answer_table.specs.declared.answers.Answers.{Answers}
+use Rattle.answer_table.specs.Asking.{HasAnswer, answer_of, question_of}
+use Rattle.answer_table.specs.HomePaths.{ends_inner, is_inner_step}
 use Rattle.erased_meaning.specs.Inputs.{InitialGives, InputGives, IsDeclarationIn, OwnGives, input_rule}
-use Rattle.erased_meaning.specs.Parts.{operand_of}
-use Rattle.erased_meaning.specs.Things.{Thing, In, At, Nowhere, body_of, expression_thing, operand_clock, part}
-use Rattle.erased_meaning.specs.Tables.{AnswerAt, Gets, IsHomePath, IsScopeAt, IsValueAnswer, RuleGives, Tests, Went, chosen, setting_in, thing_in}
+use Rattle.answer_table.specs.Parts.{operand_of}
+use Rattle.answer_table.specs.Things.{Thing, In, At, Nowhere, body_of, expression_thing, operand_clock, part}
+use Rattle.answer_table.specs.Tables.{AnswerAt, Gets, IsHomePath, IsScopeAt, RuleGives, setting_in, thing_in}
+use Rattle.erased_meaning.specs.Rules.{IsValueAnswer, Tests, Went, chosen}
 use Rattle.erased_meaning.proofs.ExpressionsOf.{from_rule}
 use Rattle.erased_meaning.proofs.Following.{answer_gives, asked_further}
-use Rattle.erased_meaning.proofs.HomePaths.{Standing, a_top, a_call, a_branch, a_body, a_state, IsBodyOfCall, declared_inside, declared_of_node, ends, nowhere_in, same_in, stands, step_call, step_not}
-use Rattle.erased_meaning.proofs.Shown.{not_none, same_some, thing_more}
+use Rattle.answer_table.proofs.HomePaths.{Standing, a_top, a_call, a_branch, a_body, a_state, IsBodyOfCall, declared_inside, declared_of_node, ends, stands, step_call, step_not}
+use Rattle.answer_table.proofs.Shown.{not_none, nowhere_in, same_in, same_some, thing_more}
 
 -- ---- declarations
 

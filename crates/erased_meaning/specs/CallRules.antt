@@ -4,12 +4,13 @@ use Rattle.hept_ast.specs.Scopes.{Clock, Scope}
 use Rattle.hept_ast.specs.Meaning.{Question, Rule, call_of, count_before, output_rule}
 use Rattle.hept_ast.specs.declared.tree.Expr.{Expr}
 use Rattle.hept_ast.specs.declared.tree.Form.{out-Form}
-use Rattle.erased_meaning.specs.declared.paths.Step.{Step}
-use Rattle.erased_meaning.specs.declared.questions.Asked.TheVariants as asked
-use Rattle.erased_meaning.specs.declared.questions.Answer.{Answer}
-use Rattle.erased_meaning.specs.declared.answers.Answers.{Answers}
-use Rattle.erased_meaning.specs.Things.{At}
-use Rattle.erased_meaning.specs.Tables.{AreAsked, RuleGives, setting_in, thing_in}
+use Rattle.answer_table.specs.declared.paths.Step.{Step}
+use Rattle.answer_table.specs.declared.questions.Asked.TheVariants as asked
+use Rattle.answer_table.specs.declared.questions.Answer.{Answer}
+use Rattle.answer_table.specs.declared.answers.Answers.{Answers}
+use Rattle.answer_table.specs.Things.{At}
+use Rattle.answer_table.specs.Tables.{RuleGives, setting_in, thing_in}
+use Rattle.erased_meaning.specs.Rules.{AreAsked}
 
 -- a count of the instants before the second one goes on as a count of those before the first does, where it goes on the same by each number
 abbrev pub CountsOn : Answers → (present : ℕ → Question) → (at t : ℕ) → Type 0

@@ -9,14 +9,14 @@ use Rattle.hept_ast.specs.declared.tree.Block.{Block}
 use Rattle.hept_ast.specs.declared.tree.Branch.{Branch}
 use Rattle.hept_ast.specs.declared.tree.State.{State}
 use Rattle.hept_ast.specs.declared.tree.Equation.{out-Equation}
-use Rattle.erased_meaning.specs.declared.paths.Step.{Step}
-use Rattle.erased_meaning.specs.declared.paths.Step.TheVariants as way
-use Rattle.erased_meaning.specs.declared.questions.Answer.{Answer}
-use Rattle.erased_meaning.specs.declared.questions.Answer.TheVariants as answer
-use Rattle.erased_meaning.specs.declared.answers.Answers.{Answers}
-use Rattle.erased_meaning.specs.Parts.{An_equation}
-use Rattle.erased_meaning.specs.Things.{In}
-use Rattle.erased_meaning.specs.Tables.{RuleGives, setting_in, thing_in}
+use Rattle.answer_table.specs.declared.paths.Step.{Step}
+use Rattle.answer_table.specs.declared.paths.Step.TheVariants as way
+use Rattle.answer_table.specs.declared.questions.Answer.{Answer}
+use Rattle.answer_table.specs.declared.questions.Answer.TheVariants as answer
+use Rattle.answer_table.specs.declared.answers.Answers.{Answers}
+use Rattle.answer_table.specs.Parts.{An_equation}
+use Rattle.answer_table.specs.Things.{In}
+use Rattle.answer_table.specs.Tables.{RuleGives, setting_in, thing_in}
 
 -- the equation at a position of a scope's block
 abbrev pub equation_in : Scope → ℕ → Option An_equation

@@ -5,12 +5,13 @@ use Rattle.hept_ast.specs.Texts.{Name, same}
 use Rattle.hept_ast.specs.Scopes.{Scope, Top, Called, declared_in}
 use Rattle.hept_ast.specs.Meaning.{Rule, Setting, Says, Reads, Unknown, argument_rule, initial_rule, own_rule}
 use Rattle.hept_ast.specs.declared.tree.Decl.{Decl}
-use Rattle.erased_meaning.specs.declared.paths.Step.{Step}
-use Rattle.erased_meaning.specs.declared.questions.Answer.{Answer}
-use Rattle.erased_meaning.specs.declared.answers.Answers.{Answers}
-use Rattle.erased_meaning.specs.HomePaths.{ends_inner}
-use Rattle.erased_meaning.specs.Things.{In}
-use Rattle.erased_meaning.specs.Tables.{ScopeRuleGives, setting_in, thing_in}
+use Rattle.answer_table.specs.declared.paths.Step.{Step}
+use Rattle.answer_table.specs.declared.questions.Answer.{Answer}
+use Rattle.answer_table.specs.declared.answers.Answers.{Answers}
+use Rattle.answer_table.specs.HomePaths.{ends_inner}
+use Rattle.answer_table.specs.Things.{In}
+use Rattle.answer_table.specs.Tables.{setting_in, thing_in}
+use Rattle.erased_meaning.specs.Rules.{ScopeRuleGives}
 
 -- the input at a position of a scope that is a body of a node
 abbrev pub input_rule : Setting → Scope → (position : ℕ) → ℕ → Rule

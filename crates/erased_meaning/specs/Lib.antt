@@ -1,10 +1,7 @@
+pub use Rattle.answer_table.specs.Things
+pub mod Rules
 pub mod Found
-pub mod Parts
-pub mod Things
-pub mod Asking
-pub mod Tables
 pub mod CallRules
-pub mod HomePaths
 pub mod Inputs
 pub mod Equations
 pub mod ErasedRows

@@ -4,12 +4,12 @@ use Rattle.hept_ast.specs.Scopes.{Scope, In_state, block_of}
 use Rattle.hept_ast.specs.Meaning.{Active, Restarted, Left_state, Rule, Says, on_state, previous, taken, from_pending, weak_of}
 use Rattle.hept_ast.specs.Meaning as meaning
 use Rattle.hept_ast.specs.declared.tree.State.{State}
-use Rattle.erased_meaning.specs.declared.paths.Step.{Step}
-use Rattle.erased_meaning.specs.declared.questions.Answer.{Answer}
-use Rattle.erased_meaning.specs.declared.answers.Answers.{Answers}
-use Rattle.erased_meaning.specs.Parts.{states_at}
-use Rattle.erased_meaning.specs.Things.{In}
-use Rattle.erased_meaning.specs.Tables.{RuleGives, setting_in, thing_in}
+use Rattle.answer_table.specs.declared.paths.Step.{Step}
+use Rattle.answer_table.specs.declared.questions.Answer.{Answer}
+use Rattle.answer_table.specs.declared.answers.Answers.{Answers}
+use Rattle.answer_table.specs.Parts.{states_at}
+use Rattle.answer_table.specs.Things.{In}
+use Rattle.answer_table.specs.Tables.{RuleGives, setting_in, thing_in}
 
 -- where a path leads to a scope that has an automaton of these states, this is what a rule about it comes to
 abbrev pub AutomatonGives : Answers → List Step → (equation : ℕ) → List State → (Scope → Rule) → Answer → Type 0

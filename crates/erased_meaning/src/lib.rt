@@ -2,21 +2,15 @@
 #![tactic(auto)]
 
 mod activity;
-mod answers;
 mod automata;
 mod calls;
-mod clocks;
 mod definitions;
 mod delays;
 mod expressions;
 mod forms;
-mod homes;
-mod paths;
-mod questions;
-mod scopes;
+mod presence;
 mod solve;
 mod values;
 mod variables;
-mod views;
 
 pub use solve::value_rows;

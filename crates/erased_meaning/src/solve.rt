@@ -7,122 +7,111 @@ ghost use Rattle.hept_ast.specs.TypedValues.{RowsFit};
 ghost use Rattle.hept_ast.specs.Erasure.{erased};
 ghost use Rattle.hept_ast.specs.declared.tree.Node.{Node};
 ghost use Rattle.accepted_meaning.specs.Ranges.{IsInRange};
-ghost use Rattle.erased_meaning.specs.Things.{setting_of};
+ghost use Rattle.answer_table.specs.Things.{setting_of};
 ghost use Rattle.erased_meaning.specs.ErasedRows.{setting_of_erased};
-ghost use Rattle.erased_meaning.specs.Tables.{AnswerAt, IsSameRun, IsSound, setting_in};
+ghost use Rattle.answer_table.specs.Tables.{AnswerAt, IsSameRun, IsSound, setting_in};
 
-use crate::answers::Answers;
-use crate::questions::{Answer, Asked, Entry, Question, Stop};
+use crate::activity::{active, restarted};
+use crate::automata::{active_state, left_state};
+use crate::calls::output_gives;
+use crate::definitions::{defined, defines};
+use crate::expressions::gives;
+use crate::presence::{present, present_of};
+use crate::variables::{last, variable};
 use accepted_meaning::accepted_laws;
+use answer_table::{Answer, Answers, Asked, Question, Stop};
 use hept_ast::{Accepted, Memory, Name, NodeId, Rows, meaning_laws};
 use std::alloc::Global;
 
-impl<'a> Answers<'a> {
-    /// The answer to a question, from what is known.
-    fn rule(&self, question: &Question<'a>) -> Result<Answer, Stop<'a>>
-        requires { IsSound self.now }
-        ensures { IfOk result (AnswerAt self.now question.now.path.items question.now.asked question.now.instant) }
-    {
-        let path = question.path.as_slice();
-        let t = question.instant;
-        match question.asked {
-            Asked::Gives => self.gives(path, t),
-            Asked::Output(output) => self.output(path, output, t),
-            Asked::Variable(name) => self.variable(path, name, t),
-            Asked::Last(name) => self.last(path, name, t),
-            Asked::Defined(name) => self.defined(path, name, t),
-            Asked::Defines(equation, name) => self.defines(path, equation, name),
-            Asked::Present => self.present(path, t),
-            Asked::PresentOf(name) => self.present_of(path, name, t),
-            Asked::Active => self.active(path, t),
-            Asked::Restarted => self.restarted(path, t),
-            Asked::ActiveState(equation) => self.active_state(path, equation, t),
-            Asked::LeftState(equation) => self.left_state(path, equation, t),
-        }
+/// The answer to a question, from what is known.
+fn rule<'a>(answers: &Answers<'a>, question: &Question<'a>) -> Result<Answer, Stop<'a>>
+    requires { IsSound answers.now }
+    ensures { IfOk result (AnswerAt answers.now question.now.path.items question.now.asked question.now.instant) }
+{
+    let path = question.path.as_slice();
+    let t = question.instant;
+    match question.asked {
+        Asked::Gives => gives(answers, path, t),
+        Asked::Output(output) => output_gives(answers, path, output, t),
+        Asked::Variable(name) => variable(answers, path, name, t),
+        Asked::Last(name) => last(answers, path, name, t),
+        Asked::Defined(name) => defined(answers, path, name, t),
+        Asked::Defines(equation, name) => defines(answers, path, equation, name),
+        Asked::Present => present(answers, path, t),
+        Asked::PresentOf(name) => present_of(answers, path, name, t),
+        Asked::Active => active(answers, path, t),
+        Asked::Restarted => restarted(answers, path, t),
+        Asked::ActiveState(equation) => active_state(answers, path, equation, t),
+        Asked::LeftState(equation) => left_state(answers, path, equation, t),
     }
+}
 
-    /// Keeps an answer.
-    fn keep(&mut self, question: Question<'a>, answer: Answer) -> Result<(), Memory>
-        requires sound { IsSound self.old }
-        requires right { AnswerAt self.old question.path.items question.asked question.instant answer }
-        ensures sound { IsSound self.new }
-        ensures same { IsSameRun self.old self.new }
-    {
-        while self.known.len() <= question.instant {
-            if self.known.push(Vec::new(self.alloc)).is_err() {
-                return Err(Memory);
+/// Answers a question, after those that it needs.
+fn solve<'a>(answers: &mut Answers<'a>, question: Question<'a>) -> Result<(), Memory>
+    requires { IsSound answers.old }
+    ensures sound { IsSound answers.new }
+    ensures same { IsSameRun answers.old answers.new }
+{
+    let mut open = Vec::new(answers.alloc);
+    if open.push(question).is_err() {
+        return Err(Memory);
+    }
+    for _ in 0..u64::MAX {
+        let Some(question) = open.pop() else {
+            return Ok(());
+        };
+        match rule(answers, &question) {
+            Ok(answer) => answers.keep(question, answer)?,
+            Err(Stop::First(first)) => {
+                if open.push(question).is_err() || open.push(first).is_err() {
+                    return Err(Memory);
+                }
             }
-        }
-        let instant = question.instant;
-        match self.known[instant].push(Entry { question, answer }) {
-            Ok(()) => Ok(()),
-            Err(_) => Err(Memory),
+            Err(_) => return Err(Memory),
         }
     }
+    Err(Memory)
+}
 
-    /// Answers a question, after those that it needs.
-    fn solve(&mut self, question: Question<'a>) -> Result<(), Memory>
-        requires { IsSound self.old }
-        ensures sound { IsSound self.new }
-        ensures same { IsSameRun self.old self.new }
-    {
-        let mut open = Vec::new(self.alloc);
-        if open.push(question).is_err() {
+/// What a variable of the chosen node gives at an instant.
+fn value<'a>(answers: &mut Answers<'a>, name: &'a Name, t: usize) -> Result<u32, Memory>
+    requires { IsSound answers.old }
+    ensures value { (node : Node) → slice_get answers.old.accepted.now.program.nodes answers.old.top ≡ Some node → IfOk result (λ v. Knows (setting_in answers.old) answers.old.rows.now (Variable name.now (Top (Written answers.old.top node)) t) (Value v)) }
+    ensures sound { IsSound answers.new }
+    ensures same { IsSameRun answers.old answers.new }
+{
+    let question = Question {
+        path: Vec::new(answers.alloc),
+        asked: Asked::Variable(name),
+        instant: t,
+    };
+    solve(answers, question)?;
+    match answers.ask_here(&[], Asked::Variable(name), t) {
+        Ok(Answer::Value(value)) => Ok(value),
+        _ => Err(Memory),
+    }
+}
+
+/// The row of outputs of the chosen node at an instant.
+fn row<'a>(
+    answers: &mut Answers<'a>,
+    node: &'a hept_ast::Node,
+    t: usize,
+) -> Result<Vec<u32>, Memory>
+    requires sound { IsSound answers.old }
+    requires chosen { slice_get answers.old.accepted.now.program.nodes answers.old.top ≡ Some node.now }
+    ensures values { IfOk result (λ row. HaveValues (setting_in answers.old) answers.old.rows.now (output_questions (Written answers.old.top node.now) t) row.items) }
+    ensures sound { IsSound answers.new }
+    ensures same { IsSameRun answers.old answers.new }
+{
+    let mut row = Vec::new(answers.alloc);
+    for output in node.outputs.as_slice() {
+        let value = value(answers, &output.name, t)?;
+        if row.push(value).is_err() {
             return Err(Memory);
         }
-        for _ in 0..u64::MAX {
-            let Some(question) = open.pop() else {
-                return Ok(());
-            };
-            match self.rule(&question) {
-                Ok(answer) => self.keep(question, answer)?,
-                Err(Stop::First(first)) => {
-                    if open.push(question).is_err() || open.push(first).is_err() {
-                        return Err(Memory);
-                    }
-                }
-                Err(_) => return Err(Memory),
-            }
-        }
-        Err(Memory)
     }
-
-    /// What a variable of the chosen node gives at an instant.
-    fn value(&mut self, name: &'a Name, t: usize) -> Result<u32, Memory>
-        requires { IsSound self.old }
-        ensures value { (node : Node) → slice_get self.old.accepted.now.program.nodes self.old.top ≡ Some node → IfOk result (λ v. Knows (setting_in self.old) self.old.rows.now (Variable name.now (Top (Written self.old.top node)) t) (Value v)) }
-        ensures sound { IsSound self.new }
-        ensures same { IsSameRun self.old self.new }
-    {
-        let question = Question {
-            path: Vec::new(self.alloc),
-            asked: Asked::Variable(name),
-            instant: t,
-        };
-        self.solve(question)?;
-        match self.ask_here(&[], Asked::Variable(name), t) {
-            Ok(Answer::Value(value)) => Ok(value),
-            _ => Err(Memory),
-        }
-    }
-
-    /// The row of outputs of the chosen node at an instant.
-    fn row(&mut self, node: &'a hept_ast::Node, t: usize) -> Result<Vec<u32>, Memory>
-        requires sound { IsSound self.old }
-        requires chosen { slice_get self.old.accepted.now.program.nodes self.old.top ≡ Some node.now }
-        ensures values { IfOk result (λ row. HaveValues (setting_in self.old) self.old.rows.now (output_questions (Written self.old.top node.now) t) row.items) }
-        ensures sound { IsSound self.new }
-        ensures same { IsSameRun self.old self.new }
-    {
-        let mut row = Vec::new(self.alloc);
-        for output in node.outputs.as_slice() {
-            let value = self.value(&output.name, t)?;
-            if row.push(value).is_err() {
-                return Err(Memory);
-            }
-        }
-        Ok(row)
-    }
+    Ok(row)
 }
 
 /// The rows of outputs of a node of an accepted program on rows of inputs: one row for each. They are
@@ -150,7 +139,7 @@ pub fn value_rows(
     };
     let mut outs = Rows::new(alloc);
     for t in 0..rows.len() {
-        let row = answers.row(node, t)?;
+        let row = row(&mut answers, node, t)?;
         outs.push(alloc, row.as_slice())?;
     }
     accepted_laws();

@@ -1,13 +1,11 @@
+use crate::texts::{clocked, unmarked, well_clocked};
 use causality::{
     AcceptFault, CausalFault, InitFault, accept, check_causal, check_initial, cycle_laws,
 };
-use clock_calculus::{ClockFault, check_clocks};
-use ept_reader::read_program;
-use hept_ast::Clocked;
+use clock_calculus::ClockFault;
 use std::alloc::Global;
 use std::process::Abort;
 use std::test::Fail;
-use type_futures::check_types;
 
 // Each condition on clocks.
 const NO_CLOCKS: &str = "node main(b:bool; x:int) returns (y:int) let y = x @when b tel
@@ -51,50 +49,12 @@ node main(x:int) returns (y:int) var a : future int; let a = async f(x); y = 0 -
 node sum(x:int) returns (s:int) let s = x + (0 fby s) tel node main(c:bool; x:int) returns (y:int) let y = merge c (true -> sum(x when c)) (false -> 0) tel
 node main(b:bool; x:int) returns (y:int) let y = merge b (true -> (x when b) + 1) (false -> 0) tel";
 
-/// The place that is marked by `@`, and the text without the mark.
-fn unmarked(alloc: Global, marked: &str) -> Result<(u32, Vec<u8>), Fail> {
-    let mut text = Vec::new(alloc);
-    let mut place = 0;
-    for (index, byte) in marked.as_bytes().iter().enumerate() {
-        if *byte == b'@' {
-            place = index;
-        } else {
-            text.push(*byte)?;
-        }
-    }
-    match u32::try_from(place) {
-        Ok(place) => Ok((place, text)),
-        Err(_) => Ok((0, text)),
-    }
-}
-
-/// The clocks of a text that is well typed.
-fn clocked<R: Abort>(rt: &R, alloc: Global, text: &[u8]) -> Result<Clocked, ClockFault> {
-    assert!(rt; text.len() < 1000);
-    let program = match read_program(alloc, text) {
-        Ok(program) => program,
-        Err(_) => panic!(rt; "not read"),
-    };
-    match check_types(alloc, program) {
-        Ok(typed) => check_clocks(alloc, typed),
-        Err(fault) => panic!(rt; "{fault}"),
-    }
-}
-
-/// The clocks of a text that is well clocked.
-fn well_clocked<R: Abort>(rt: &R, alloc: Global, text: &[u8]) -> Clocked {
-    match clocked(rt, alloc, text) {
-        Ok(clocked) => clocked,
-        Err(fault) => panic!(rt; "{fault}"),
-    }
-}
-
 /// Asserts that a program has no clocks, for the condition at the place that is marked by `@`.
 fn has_no_clock<R: Abort>(rt: &R, alloc: Global, marked: &str) -> Result<(), Fail> {
     let (place, text) = unmarked(alloc, marked)?;
     match clocked(rt, alloc, text.as_slice()) {
         Err(ClockFault::NoClock { at }) => {
-            assert_eq!(rt; at.0, place, "{marked}");
+            assert_eq!(rt; at.0 as usize, place, "{marked}");
             Ok(())
         }
         _ => panic!(rt; "accepted: {marked}"),
@@ -106,13 +66,13 @@ fn may_be_nil<R: Abort>(rt: &R, alloc: Global, marked: &str) -> Result<(), Fail>
     let (place, text) = unmarked(alloc, marked)?;
     let clocked = well_clocked(rt, alloc, text.as_slice());
     match check_initial(alloc, &clocked) {
-        Err(InitFault::MayBeNil { at }) => assert_eq!(rt; at.0, place, "{marked}"),
+        Err(InitFault::MayBeNil { at }) => assert_eq!(rt; at.0 as usize, place, "{marked}"),
         _ => panic!(rt; "accepted: {marked}"),
     }
     assert!(rt; clocked.program().nodes.len() < 100);
     match accept(alloc, clocked) {
         Err(AcceptFault::Initial(InitFault::MayBeNil { at })) => {
-            assert_eq!(rt; at.0, place, "{marked}");
+            assert_eq!(rt; at.0 as usize, place, "{marked}");
             Ok(())
         }
         _ => panic!(rt; "accepted: {marked}"),
@@ -168,53 +128,80 @@ fn undefined_values(rt: HostRuntime) -> Result<(), Fail> {
 
 // What a variable reads at its own instant.
 #[test]
-fn cycles(rt: HostRuntime) -> Result<(), Fail> {
-    let alloc = rt.alloc();
+fn cycle_of_two_branches(rt: HostRuntime) -> Result<(), Fail> {
     has_cycle(
         &rt,
-        alloc,
+        rt.alloc(),
         "x y",
         "node main(c:bool) returns (x,y:int) let switch c | true do x = y; y = 0 | false do y = x; x = 0 end tel",
-    )?;
+    )
+}
+
+#[test]
+fn cycle_of_one(rt: HostRuntime) -> Result<(), Fail> {
     has_cycle(
         &rt,
-        alloc,
+        rt.alloc(),
         "y",
         "node main(x:int) returns (y:int) let y = y + x tel",
-    )?;
+    )
+}
+
+#[test]
+fn cycle_of_two(rt: HostRuntime) -> Result<(), Fail> {
     has_cycle(
         &rt,
-        alloc,
+        rt.alloc(),
         "y z",
         "node main(x:int) returns (y:int) var z:int let z = y; y = z tel",
-    )?;
+    )
+}
+
+#[test]
+fn cycle_through_a_scrutinee(rt: HostRuntime) -> Result<(), Fail> {
     has_cycle(
         &rt,
-        alloc,
+        rt.alloc(),
         "y",
         "node main(x:int) returns (y:int) let switch y > 0 | true do y = 0 | false do y = 1 end tel",
-    )?;
+    )
+}
+
+#[test]
+fn cycle_through_a_strong_condition(rt: HostRuntime) -> Result<(), Fail> {
     has_cycle(
         &rt,
-        alloc,
+        rt.alloc(),
         "y",
         "node main(x:int) returns (y:int) let automaton state A do y = 0 unless y > 0 then A end tel",
-    )?;
+    )
+}
+
+#[test]
+fn cycle_through_a_reset(rt: HostRuntime) -> Result<(), Fail> {
     has_cycle(
         &rt,
-        alloc,
+        rt.alloc(),
         "y",
         "node main(x:int) returns (y:int) let reset y = x every y > 3 tel",
-    )?;
+    )
+}
+
+#[test]
+fn cycle_through_a_call(rt: HostRuntime) -> Result<(), Fail> {
     has_cycle(
         &rt,
-        alloc,
+        rt.alloc(),
         "a",
         "node main(x:int) returns (y:int) var a, b:int let (a, b) = f(a); y = b tel node f(x:int) returns (a, b:int) let a = x; b = x tel",
-    )?;
+    )
+}
+
+#[test]
+fn cycle_through_a_merge(rt: HostRuntime) -> Result<(), Fail> {
     has_cycle(
         &rt,
-        alloc,
+        rt.alloc(),
         "c",
         "node main(x:int) returns (y:int) var c:bool let c = (merge c (true -> true) (false -> false)); y = x tel",
     )

@@ -1,25 +1,14 @@
-use ept_reader::read_program;
+use crate::texts::typed;
 use hept_ast::{NodeId, Typed};
 use std::alloc::Global;
 use std::process::Abort;
 use std::test::Fail;
-use type_futures::{check_types, choose};
+use type_futures::choose;
 
 // Three nodes; the second one has an output of future type.
 const NODES: &[u8] = b"node f(x:int) returns (z:int) let z = x tel
 node g(x:int) returns (z:future int) let z = async f(x) tel
 node h(x:int) returns (z:int) let z = !g(x) tel";
-
-fn typed<R: Abort>(rt: &R, alloc: Global, text: &[u8]) -> Typed {
-    assert!(rt; text.len() < 1000);
-    let Ok(program) = read_program(alloc, text) else {
-        panic!(rt; "not read");
-    };
-    match check_types(alloc, program) {
-        Ok(typed) => typed,
-        Err(fault) => panic!(rt; "{fault}"),
-    }
-}
 
 /// Asserts that this node is chosen.
 fn chooses<R: Abort>(rt: &R, typed: &Typed, name: Option<&str>, node: u32) {
@@ -50,13 +39,36 @@ fn refuses<R: Abort>(
 }
 
 #[test]
-fn a_node_is_chosen_by_its_name_and_else_the_last(rt: HostRuntime) -> Result<(), Fail> {
+fn the_last_node_is_chosen(rt: HostRuntime) {
+    chooses(&rt, &typed(&rt, rt.alloc(), NODES), None, 2);
+}
+
+#[test]
+fn a_node_is_chosen_by_its_name(rt: HostRuntime) {
+    chooses(&rt, &typed(&rt, rt.alloc(), NODES), Some("f"), 0);
+}
+
+#[test]
+fn no_node_has_the_name(rt: HostRuntime) -> Result<(), Fail> {
+    let alloc = rt.alloc();
+    refuses(
+        &rt,
+        alloc,
+        &typed(&rt, alloc, NODES),
+        Some("main"),
+        "no node",
+    )
+}
+
+#[test]
+fn an_output_is_a_future(rt: HostRuntime) -> Result<(), Fail> {
     let alloc = rt.alloc();
     let nodes = typed(&rt, alloc, NODES);
-    chooses(&rt, &nodes, None, 2);
-    chooses(&rt, &nodes, Some("f"), 0);
-    refuses(&rt, alloc, &nodes, Some("main"), "no node")?;
-    refuses(&rt, alloc, &nodes, Some("g"), "future interface at 67")?;
-    let none = typed(&rt, alloc, b"");
-    refuses(&rt, alloc, &none, None, "no node")
+    refuses(&rt, alloc, &nodes, Some("g"), "future interface at 67")
+}
+
+#[test]
+fn no_node_is_there(rt: HostRuntime) -> Result<(), Fail> {
+    let alloc = rt.alloc();
+    refuses(&rt, alloc, &typed(&rt, alloc, b""), None, "no node")
 }

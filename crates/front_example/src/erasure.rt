@@ -1,6 +1,6 @@
+use crate::texts::program;
 use causality::accept;
 use clock_calculus::check_clocks;
-use ept_reader::read_program;
 use erased_rules::erasure_laws;
 use hept_ast::{Accepted, Program, erase};
 use std::alloc::Global;
@@ -35,12 +35,7 @@ fn accepted<R: Abort>(rt: &R, alloc: Global, program: Program) -> Accepted {
 fn erased_programs_are_accepted(rt: HostRuntime) {
     let alloc = rt.alloc();
     for text in WITH_FUTURES.lines() {
-        assert!(&rt; text.len() < 1000);
-        let program = match read_program(alloc, text.as_bytes()) {
-            Ok(program) => program,
-            Err(_) => panic!(&rt; "not read: {text}"),
-        };
-        let before = accepted(&rt, alloc, program);
+        let before = accepted(&rt, alloc, program(&rt, alloc, text.as_bytes()));
         let erased = match erase(alloc, before.program()) {
             Ok(erased) => erased,
             Err(_) => panic!(&rt; "not erased: {text}"),

@@ -13,3 +13,5 @@ mod erasure;
 mod limits;
 #[cfg(test)]
 mod tests;
+#[cfg(test)]
+mod texts;

@@ -1,5 +1,4 @@
-use ept_reader::read_program;
-use hept_ast::Program;
+use crate::texts::{program, unmarked};
 use std::alloc::Global;
 use std::process::Abort;
 use std::test::Fail;
@@ -121,6 +120,10 @@ const NESTED_CALLS: &str =
     "node f(x:int) returns (y:int) let y = !(@async g(x)) tel node g(x:int) returns (y:int) let y = x tel node main(x:int) returns (y:int) let y = !(async f(x)) tel
 node h(x:int) returns (y:int) let y = !(@async g(x)) tel node g(x:int) returns (y:int) let y = x tel node f(x:int) returns (y:int) let y = h(x) tel node main(x:int) returns (y:int) let y = !(async f(x)) tel";
 
+// An unknown name before a mismatch, and one at the place of a mismatch.
+const FIRST_UNKNOWN_NAMES: &str = "node main(x:int) returns (y, z:int) let z = @w; y = x + true tel
+node main(x:int) returns (y:int) let automaton state A do y = 0 until @x then B end tel";
+
 // In turn: nodes and types before their text, with a call of two outputs; a branch that leaves a variable with `last` as
 // it was; a weak condition that sees what its state declares; a future that is handed on and read by `!`; one that a
 // node which no async call names keeps; futures in a merge; a reset with `->` and `pre`.
@@ -133,28 +136,10 @@ node f(x:int) returns (z:int) let z = x tel node g(h:future int) returns (k:futu
 node f(x:int) returns (z:int) let z = x tel node main(x:int; b:bool) returns (y:int) let y = merge b (true -> !(async f(x when b))) (false -> (0 fby y) whenot b) tel
 node main(b:bool) returns (y:int) let reset y = 0 -> pre y + 1 every b tel";
 
-/// What a text spells.
-fn program<R: Abort>(rt: &R, alloc: Global, text: &[u8]) -> Program {
-    assert!(rt; text.len() < 1000);
-    match read_program(alloc, text) {
-        Ok(program) => program,
-        Err(_) => panic!(rt; "not read"),
-    }
-}
-
 /// Asserts that a program is refused for this, at the place that is marked by `@`.
 fn refuses<R: Abort>(rt: &R, alloc: Global, kind: &str, marked: &str) -> Result<(), Fail> {
-    let mut text = Vec::new(alloc);
-    let mut place = 0;
-    for (index, byte) in marked.as_bytes().iter().enumerate() {
-        if *byte == b'@' {
-            place = index;
-        } else {
-            text.push(*byte)?;
-        }
-    }
-    let program = program(rt, alloc, text.as_slice());
-    match check_types(alloc, program) {
+    let (place, text) = unmarked(alloc, marked)?;
+    match check_types(alloc, program(rt, alloc, text.as_slice())) {
         Ok(_) => panic!(rt; "accepted: {marked}"),
         Err(fault) => {
             let said = format!(in alloc; "{fault}")?;
@@ -167,8 +152,7 @@ fn refuses<R: Abort>(rt: &R, alloc: Global, kind: &str, marked: &str) -> Result<
 
 /// Asserts that a program is refused with this text.
 fn says<R: Abort>(rt: &R, alloc: Global, wanted: &str, text: &str) -> Result<(), Fail> {
-    let program = program(rt, alloc, text.as_bytes());
-    match check_types(alloc, program) {
+    match check_types(alloc, program(rt, alloc, text.as_bytes())) {
         Ok(_) => panic!(rt; "accepted: {text}"),
         Err(fault) => {
             let said = format!(in alloc; "{fault}")?;
@@ -179,8 +163,7 @@ fn says<R: Abort>(rt: &R, alloc: Global, wanted: &str, text: &str) -> Result<(),
 }
 
 fn accepts<R: Abort>(rt: &R, alloc: Global, text: &str) {
-    let program = program(rt, alloc, text.as_bytes());
-    match check_types(alloc, program) {
+    match check_types(alloc, program(rt, alloc, text.as_bytes())) {
         Ok(_) => {}
         Err(fault) => panic!(rt; "{fault}: {text}"),
     }
@@ -254,20 +237,22 @@ fn nested_calls(rt: HostRuntime) -> Result<(), Fail> {
     refuses_each(&rt, rt.alloc(), "nested async", NESTED_CALLS)
 }
 
-// A queue of no place, and one of too many.
 #[test]
-fn queue_limit(rt: HostRuntime) -> Result<(), Fail> {
-    let alloc = rt.alloc();
+fn queue_of_no_place(rt: HostRuntime) -> Result<(), Fail> {
     says(
         &rt,
-        alloc,
+        rt.alloc(),
         "limit at 43: 0 of 1024",
         "node main(x:int) returns (y:int) let y = !(async<<0>> f(x)) tel
 node f(x:int) returns (z:int) let z = x + 1 tel",
-    )?;
+    )
+}
+
+#[test]
+fn queue_limit(rt: HostRuntime) -> Result<(), Fail> {
     says(
         &rt,
-        alloc,
+        rt.alloc(),
         "limit at 43: 1025 of 1024",
         "node main(x:int) returns (y:int) let y = !(async<<1025>> f(x)) tel
 node f(x:int) returns (z:int) let z = x + 1 tel",
@@ -300,32 +285,29 @@ fn when_faults(rt: HostRuntime) -> Result<(), Fail> {
     )
 }
 
-// Of several faults the one of least place is answered, and at one place the one of least number.
+// Of several faults the one of least place is answered.
 #[test]
-fn first_faults(rt: HostRuntime) -> Result<(), Fail> {
-    let alloc = rt.alloc();
+fn first_mismatch(rt: HostRuntime) -> Result<(), Fail> {
     refuses(
         &rt,
-        alloc,
+        rt.alloc(),
         "mismatch",
         "node main(x:int) returns (y, z:int) let z = x @+ true; y = w tel",
-    )?;
+    )
+}
+
+// The same the other way round, and at one place the fault of least number.
+#[test]
+fn first_unknown_names(rt: HostRuntime) -> Result<(), Fail> {
+    refuses_each(&rt, rt.alloc(), "unknown name", FIRST_UNKNOWN_NAMES)
+}
+
+// A fault below a sum leaves it without type, so that no mismatch stands at it.
+#[test]
+fn no_mismatch_above_a_fault(rt: HostRuntime) -> Result<(), Fail> {
     refuses(
         &rt,
-        alloc,
-        "unknown name",
-        "node main(x:int) returns (y, z:int) let z = @w; y = x + true tel",
-    )?;
-    refuses(
-        &rt,
-        alloc,
-        "unknown name",
-        "node main(x:int) returns (y:int) let automaton state A do y = 0 until @x then B end tel",
-    )?;
-    // A fault below a sum leaves it without type, so that no mismatch stands at it.
-    refuses(
-        &rt,
-        alloc,
+        rt.alloc(),
         "zero divisor",
         "node main(x:int) returns (y:bool) let y = not (x @/ 0) tel",
     )

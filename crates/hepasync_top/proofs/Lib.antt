@@ -1,21 +1,7 @@
-pub mod Names
-pub mod Compiling
-pub mod RowShapes
-pub mod Among
-pub mod FormsOut
-pub mod TypesOf
-pub mod Steppable
-pub mod Known
-pub mod Body
-pub mod AtInstant
-pub mod AtStart
-pub mod Refusing
-pub mod Lines
 pub mod Completeness
-mod RowByRow
-pub mod Cells
 pub mod Ends
 pub mod LineSteps
+pub mod Lines
 pub mod NextOutputs
+pub mod Refusing
 pub mod Statuses
-pub mod Serves

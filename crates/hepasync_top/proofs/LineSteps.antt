@@ -1,18 +1,18 @@
 -- What a call of a line reader leaves to come, and what is read from it.
-use Rattle.std.proofs.Common.{◌≡◌, ℕ, ◌+◌, ◌≤◌, ⊎_elim, List, [], ◌∷◌, ◌++◌, length, take, drop, map, Option, Some, None, Result, Ok, Err, sym, refl, ap, ◌∙◌, subst, arith, length-append, append_assoc}
-use Rattle.std.specs.Io.KnownBytes.{prepend_known}
+use Rattle.std.proofs.Common.{◌≡◌, ℕ, ◌+◌, ◌<◌, ◌≤◌, ⊎_elim, List, [], ◌∷◌, ◌++◌, length, take, drop, map, Option, Some, None, Result, Ok, Err, sym, refl, ap, ◌∙◌, subst, arith, length-append, append_assoc}
+use Rattle.std.specs.Io.KnownBytes.{Consumes, Keeps, prepend_known}
 use Rattle.std.specs.Prelude.{IfSome}
-use Rattle.hept_io.specs.Lines.{Reading, to_come, lines_of, IsFirstLine, IsLine, LosesLine, GivesLine, Moves}
+use Rattle.hept_io.specs.Lines.{Reading, to_come, lines_of, IsFirstLine, IsLine, LosesLine, Ends as LineEnds, GivesLine, GivesUp, Moves}
 use Rattle.hept_io.specs.declared.lines.LineFault.{LineFault}
 use Rattle.std.specs.Borrow.{Bor}
-use Rattle.std.proofs.lemmas.List.{map-append}
+use Rattle.std.proofs.lemmas.List.{append-nil, map-append}
 use Rattle.hepasync_top.proofs.NextOutputs.{written_back}
 use Rattle.step_objects.specs.declared.shape.Values.{Values}
 use Rattle.step_cells.specs.declared.cell.Cell.{Cell}
 use Rattle.step_cells.specs.Cells.{cells_of, row_of}
 use Rattle.trace_io.specs.RowText.{IsRow, row_text}
 use Rattle.run_messages.specs.declared.end.BadRow.TheVariants.{Fault}
-use Rattle.hepasync_top.specs.Turns.{AllShort, TakesRows, LosesRows, AtMost, NextIsBad}
+use Rattle.hepasync_top.specs.Turns.{AllShort, TakesRows, LosesRows, HasNext, IsAhead, IsCutOff, NextIsBad}
 use Rattle.trace_io.specs.declared.row_text.RowFault.{RowFault}
 
 shorter_rest : (bytes line rest : List ℕ) → IsFirstLine bytes line rest → length rest + 1 ≤ length bytes
@@ -40,10 +40,54 @@ next_is_bad inputs None rest line e h s r = tt
 next_is_bad inputs (Some bytes) None line e h s r = absurd h
 next_is_bad inputs (Some bytes) (Some rest) line e h s r = record { line = line; others = lines_of rest; lines = h.lines; wrong = (s, r) }
 
-pub left_of_line : (coming : Option (List ℕ)) (pending : List ℕ) (left : Option (List ℕ)) (line : List ℕ) → LosesLine coming line (prepend_known pending left) → AtMost coming left
-left_of_line None pending left line h = tt
-left_of_line (Some bytes) pending None line h = absurd h
-left_of_line (Some bytes) pending (Some left) line h = omega (arith, shorter_rest bytes line (pending ++ left) h, length-append pending left)
+empty_back : (pending left : List ℕ) → pending ++ left ≡ [] → left ≡ []
+empty_back [] left e = e
+empty_back (b ∷ pending) left e = absurd cc
+
+-- a line was taken, and what is pending behind it
+pub ahead_of_line : (coming : Option (List ℕ)) (pending : List ℕ) (left : Option (List ℕ)) (line : List ℕ) → LosesLine coming line (prepend_known pending left) → length line ≤ 65535 → length pending ≤ 65536 → IsAhead coming left
+ahead_of_line None pending left line h short few = record { taken = []; few = omega arith; consumed = tt }
+ahead_of_line (Some bytes) pending None line h short few = absurd h
+ahead_of_line (Some bytes) pending (Some left) line h short few = ⊎_elim
+    (λ e. record {
+      taken = line ++ 10 ∷ pending;
+      few = omega (arith, length-append line (10 ∷ pending));
+      consumed = e ∙ sym (append_assoc line (10 ∷ pending) left);
+    })
+    (λ e. record {
+      taken = line;
+      few = omega arith;
+      consumed = e.0 ∙ sym (append-nil line) ∙ ap (λ bs. line ++ bs) (sym (empty_back pending left e.1));
+    })
+    h.cut
+
+-- what was pending and what came is taken
+consumes_coming : (pending came : List ℕ) (left rest : Option (List ℕ)) → Consumes left rest came → Consumes (prepend_known pending left) rest (pending ++ came)
+consumes_coming pending came None rest h = tt
+consumes_coming pending came (Some left) None h = absurd h
+consumes_coming pending came (Some left) (Some rest) h = ap (λ bs. pending ++ bs) h ∙ sym (append_assoc pending came rest)
+
+pub ahead_of_up : (old : Reading) (left : Option (List ℕ)) (new : Reading) (rest : Option (List ℕ)) → (up : GivesUp old left new rest) → length (old.pending ++ up.came) ≤ 65536 → IsAhead (to_come old left) rest
+ahead_of_up old left new rest up few = record { taken = old.pending ++ up.came; few = omega arith; consumed = consumes_coming old.pending up.came left rest up.consumed }
+
+pub cut_off : (old : Reading) (left : Option (List ℕ)) (new : Reading) (rest : Option (List ℕ)) → (up : GivesUp old left new rest) × (length (old.pending ++ up.came) < 65536) → IsCutOff (to_come old left) rest
+cut_off old left new rest (up, few) = record { taken = old.pending ++ up.came; few = few; clean = up.clean; consumed = consumes_coming old.pending up.came left rest up.consumed }
+
+consumes_none : (pending : List ℕ) (left rest : Option (List ℕ)) → pending ≡ [] → Keeps left rest → Consumes (prepend_known pending left) rest []
+consumes_none pending None rest e k = tt
+consumes_none pending (Some left) None e k = absurd k
+consumes_none pending (Some left) (Some rest) e k = ap (λ bs. bs ++ left) e ∙ sym k
+
+pub ahead_at_end : (old : Reading) (left : Option (List ℕ)) (new : Reading) (rest : Option (List ℕ)) → LineEnds old left new rest → IsAhead (to_come old left) rest
+ahead_at_end old left new rest h = record { taken = []; few = omega arith; consumed = consumes_none old.pending left rest h.none_pending h.kept }
+
+pub ahead_of_cut : (coming left : Option (List ℕ)) → IsCutOff coming left → IsAhead coming left
+ahead_of_cut coming left h = record { taken = h.taken; few = omega (arith, h.few); consumed = h.consumed }
+
+pub next_is_there : (coming rest : Option (List ℕ)) (line : List ℕ) → LosesLine coming line rest → HasNext coming
+next_is_there None rest line h = tt
+next_is_there (Some bytes) None line h = absurd h
+next_is_there (Some bytes) (Some rest) line h = λ e. let first : lines_of bytes ≡ line ∷ lines_of rest = h.lines in absurd cc
 
 pub given : (old : Reading) (left : Option (List ℕ)) (answer : Result (Option (Bor (List ℕ))) LineFault) (line : Bor (List ℕ)) (new : Reading) (rest : Option (List ℕ)) →
     answer ≡ Ok (Some line) → Moves old left answer new rest → GivesLine old left line.now new rest
@@ -77,9 +121,9 @@ pub loses_none : (inputs : List Values) (a : Option (List ℕ)) → LosesRows in
 loses_none inputs None = tt
 loses_none inputs (Some a) = record { lines = []; cut = refl; read = refl; short = tt; shorter = omega arith }
 
-pub left_of_coming : (pending : List ℕ) (left : Option (List ℕ)) → AtMost (prepend_known pending left) left
-left_of_coming pending None = tt
-left_of_coming pending (Some left) = omega (arith, length-append pending left)
+pub ahead_of_coming : (pending : List ℕ) (left : Option (List ℕ)) → length pending ≤ 65536 → IsAhead (prepend_known pending left) left
+ahead_of_coming pending None few = record { taken = pending; few = omega arith; consumed = tt }
+ahead_of_coming pending (Some left) few = record { taken = pending; few = omega arith; consumed = refl }
 
 -- the same loss, of a row that was written into a whole vector
 pub loses_row : (shape inputs : List Values) (len : ℕ) (coming : Option (List ℕ)) (old new : List Cell) (r s : Reading) (left : Option (List ℕ)) →

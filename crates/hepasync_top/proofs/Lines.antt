@@ -13,7 +13,7 @@ use Rattle.run_messages.specs.declared.end.BadRow.{BadRow}
 use Rattle.run_messages.specs.declared.end.BadRow.TheVariants.{TooLong, Fault}
 use Rattle.run_messages.specs.declared.end.End.{End}
 use Rattle.run_messages.specs.declared.end.End.TheVariants.{Ended, Refused, Usage, File, BadRow as Bad_row, Limit, ReadFault, WriteFault, Memory}
-use Rattle.hepasync_top.specs.Outputs.{input_shape}
+use Rattle.step_objects.specs.Interfaces.{input_shape}
 use Rattle.hepasync_top.specs.LineEnds.{row_end, lines_end, FollowsLines, FollowsTrace, ReadsWhole}
 use Rattle.hepasync_top.specs.Turns.{AllShort, TakesRows, LosesRows, IsWrong, NextIsBad, HasNext, RunEnds}
 

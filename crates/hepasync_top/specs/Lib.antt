@@ -1,12 +1,5 @@
-pub mod Typing
-pub mod Terms
-pub mod Stepping
-pub mod Stops
+pub mod LineEnds
 pub mod Machine
 pub mod Outputs
 pub mod Run
 pub mod Turns
-pub mod LineEnds
-pub mod Words
-pub mod Served
-pub mod Serving

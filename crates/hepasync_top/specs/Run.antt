@@ -1,31 +1,22 @@
 -- What a run does.
-use Rattle.std.specs.Prelude.{◌≡◌, ℕ, ◌≤◌, length, List, [], ◌++◌, map, Option, Some, IfSome, IsSomeAnd, Ok, ◌⊎◌}
+use Rattle.std.specs.Prelude.{◌≡◌, ℕ, ◌<◌, ◌≤◌, length, List, [], ◌++◌, map, Option, Some, IfSome, IsSomeAnd, Ok, ◌⊎◌}
 use Rattle.hept_ast.specs.declared.tree.Program.{Program}
 use Rattle.std.specs.Io.KnownBytes.{Appends}
-use Rattle.hept_io.specs.Outside.{Files, HasFile, Rose}
+use Rattle.hept_io.specs.Outside.{Files, Rose}
 use Rattle.run_messages.specs.Ends.{status_of}
 use Rattle.run_messages.specs.Lines.{line_of}
 use Rattle.hept_io.specs.Lines.{lines_of}
-use Rattle.hepasync_top.specs.Words.{file_of}
-use Rattle.hepasync_top.specs.Stops.{StopsFor, FileIsRefused, FileIsUnread, IsRefused, IsRunnable, IsUnforeseen}
+use Rattle.run_checks.specs.Words.{file_of}
+use Rattle.run_checks.specs.Stops.{IsProgramFile, StopsFor, FileIsRefused, FileIsUnread, IsRefused, IsRunnable, IsUnforeseen}
 use Rattle.run_messages.specs.declared.end.End.{End}
 use Rattle.run_messages.specs.declared.end.End.TheVariants.{Refused}
 use Rattle.run_messages.specs.declared.end.Refusal.{Refusal}
 use Rattle.trace_io.specs.RowText.{row_text}
 use Rattle.trace_io.specs.OutputText.{output_text, AppendsPart}
-use Rattle.hepasync_top.specs.Outputs.{ErasedOutputs, input_shape, output_shape}
-use Rattle.ept_reader.specs.Spelling.{IsProgramText}
+use Rattle.step_objects.specs.Interfaces.{input_shape, output_shape}
+use Rattle.hepasync_top.specs.Outputs.{ErasedOutputs}
 use Rattle.hepasync_top.specs.LineEnds.{FollowsTrace, ReadsWhole}
 use Rattle.hepasync_top.specs.Turns.{RunEnds}
-
--- The words name a file, and its bytes are the text of a program that can be run.
-pub record IsProgramFile (files : Files) (words : List (List ℕ)) (p : Program) : Type 0 where
-  pub name : List ℕ
-  pub named : file_of words ≡ Some name
-  pub bytes : List ℕ
-  pub file : HasFile files name bytes
-  pub text : IsProgramText bytes p
-  pub runs : IsRunnable p
 
 -- The words name the file of a program. Each line of the trace spells a row, and what was written is the text of the
 -- outputs that the stream meaning gives the program, with its futures erased, on these rows.
@@ -50,16 +41,19 @@ pub record Runs (limit : ℕ) (files : Option Files) (words : List (List ℕ)) (
   pub ends : RunEnds program limit trace held left now end
   pub follows : FollowsTrace (input_shape program) limit trace end
 
--- The run ends before the trace is first read: nothing is read of it, and nothing written.
-pub record Stops (files : Option Files) (words : List (List ℕ)) (old new : ℕ) (trace held left now : Option (List ℕ)) (end : End) : Type 0 where
+-- The run ends before the trace is first read: the trace and the output are kept.
+pub record Stops (files : Option Files) (words : List (List ℕ)) (old new : ℕ) (Kept : Type 0) (end : End) : Type 0 where
   pub why : StopsFor end files words old new
-  pub unread : left ≡ trace
-  pub unwritten : now ≡ held
+  pub kept : Kept
 
--- how a run ends, and why; `old` and `new` count the faults of the store
-abbrev pub Ends : (limit : ℕ) → Option Files → (words : List (List ℕ)) → (old new : ℕ) → (trace held left now : Option (List ℕ)) → End → Type 0
-Ends limit files words old new trace held left now end =
-    Runs limit files words trace held left now end ⊎ Stops files words old new trace held left now end
+-- a status of a run that ends before the trace is first read
+abbrev pub IsBefore : ℕ → Type 0
+IsBefore status = ((0 < status) × (status < 4)) ⊎ (status ≡ 8)
+
+-- how a run ends, and why; `old` and `new` count the faults of the store, and `Kept` says that the trace and the output are as they were
+abbrev pub Ends : (limit : ℕ) → Option Files → (words : List (List ℕ)) → (old new : ℕ) → (trace held left now : Option (List ℕ)) → (Kept : Type 0) → End → Type 0
+Ends limit files words old new trace held left now Kept end =
+    Runs limit files words trace held left now end ⊎ Stops files words old new Kept end
 
 -- A file whose bytes are no text is refused so, unless memory runs out or the store fails.
 abbrev pub RefusesExactly : Option Files → (words : List (List ℕ)) → End → Type 0
@@ -92,10 +86,10 @@ Says end held now old new = Appends held now (line_of end) ⊎ (AppendsPart held
 
 -- How a run ends with a status, and the line that says so. `files_old` and `err_old` count faults before the run, `files_new` and
 -- `err_new` after it.
-pub record ComesTo (limit : ℕ) (files : Option Files) (words : List (List ℕ)) (files_old files_new : ℕ) (trace held left now : Option (List ℕ)) (lines said : Option (List ℕ)) (err_old err_new : ℕ) (status : ℕ) : Type 0 where
+pub record ComesTo (limit : ℕ) (files : Option Files) (words : List (List ℕ)) (files_old files_new : ℕ) (trace held left now : Option (List ℕ)) (Kept : Type 0) (lines said : Option (List ℕ)) (err_old err_new : ℕ) (status : ℕ) : Type 0 where
   pub end : End
   pub status_is : status ≡ status_of end
-  pub ends : Ends limit files words files_old files_new trace held left now end
+  pub ends : Ends limit files words files_old files_new trace held left now Kept end
   pub refuses_text : RefusesExactly files words end
   pub refuses : RefusesAll files words end
   pub serves : RunsServed limit files words trace held left now end

@@ -1,12 +1,13 @@
 -- What the turns of a run do to the bytes that are to come and to those that are written.
 use Rattle.std.specs.Prelude.{◌≡◌, ◌≢◌, ℕ, ◌+◌, ◌<◌, ◌≤◌, List, [], ◌∷◌, ◌++◌, length, map, take, Option, Some, None, Ok, Err, ⊤}
-use Rattle.std.specs.Io.KnownBytes.{Appends, IsAtEnd}
+use Rattle.std.specs.Io.KnownBytes.{Appends, Consumes, IsAtEnd}
 use Rattle.hept_ast.specs.declared.tree.Program.{Program}
 use Rattle.step_objects.specs.declared.shape.Values.{Values}
-use Rattle.hept_io.specs.Lines.{lines_of}
+use Rattle.hept_io.specs.Lines.{HasNoNewline, lines_of}
 use Rattle.trace_io.specs.RowText.{row_text}
 use Rattle.trace_io.specs.OutputText.{row_line, output_text}
-use Rattle.hepasync_top.specs.Outputs.{ErasedOutputs, input_shape, output_shape}
+use Rattle.step_objects.specs.Interfaces.{input_shape, output_shape}
+use Rattle.hepasync_top.specs.Outputs.{ErasedOutputs}
 use Rattle.run_messages.specs.declared.end.BadRow.{BadRow}
 use Rattle.run_messages.specs.declared.end.BadRow.TheVariants.{TooLong, Fault}
 use Rattle.run_messages.specs.declared.end.End.{End}
@@ -31,11 +32,18 @@ LosesRows inputs None rows rest = ⊤
 LosesRows inputs (Some bytes) rows None = ⊥
 LosesRows inputs (Some bytes) rows (Some rest) = TakesRows inputs bytes rows rest
 
--- no more is left than this
-abbrev pub AtMost : Option (List ℕ) → Option (List ℕ) → Type 0
-AtMost None left = ⊤
-AtMost (Some bytes) None = ⊥
-AtMost (Some bytes) (Some left) = length left ≤ length bytes
+-- Of known bytes these were taken from the front, at most a line with its newline and a buffer.
+pub record IsAhead (coming left : Option (List ℕ)) : Type 0 where
+  pub taken : List ℕ
+  pub few : length taken ≤ 131072
+  pub consumed : Consumes coming left taken
+
+-- Of known bytes these were taken from the front, and they are part of a line: no newline came.
+pub record IsCutOff (coming left : Option (List ℕ)) : Type 0 where
+  pub taken : List ℕ
+  pub few : length taken < 65536
+  pub clean : HasNoNewline taken
+  pub consumed : Consumes coming left taken
 
 -- what is wrong with a line
 abbrev pub IsWrong : List Values → (line : List ℕ) → BadRow → Type 0
@@ -63,13 +71,13 @@ pub record Counted (p : Program) (coming held : Option (List ℕ)) (rows outs : 
   pub outputs : ErasedOutputs p rows outs
   pub written : Appends held now (output_text (output_shape p) outs)
 
--- Rows counted, what was to come then has a property, and no more than that is left.
+-- Rows counted, what was to come then has a property, and little was taken of it.
 pub record EndsAfter (p : Program) (coming held left now : Option (List ℕ)) (Why : (count : ℕ) → (rest : Option (List ℕ)) → Type 0) : Type 0 where
   pub rows : List (List ℕ)
   pub outs : List (List ℕ)
   pub rest : Option (List ℕ)
   pub counted : Counted p coming held rows outs rest now
-  pub within : AtMost rest left
+  pub ahead : IsAhead rest left
   pub why : Why (length rows) rest
 
 -- Rows counted, and the text of the outputs on the last one was written in part.
@@ -84,13 +92,14 @@ pub record EndsInPart (p : Program) (coming held left now : Option (List ℕ)) :
   pub taken : ℕ
   pub part : taken < length (row_line (output_shape p) out)
   pub written : Appends held now (output_text (output_shape p) outs ++ take taken (row_line (output_shape p) out))
-  pub within : AtMost rest left
+  pub ahead : IsAhead rest left
 
--- How a run over a trace ends, where at most `limit` rows may count. Lines count from 1.
+-- How a run over a trace ends, where at most `limit` rows may count. Lines count from 1. Where a read failed, the rows of all
+-- lines that had come whole counted.
 abbrev pub RunEnds : Program → (limit : ℕ) → (coming held left now : Option (List ℕ)) → End → Type 0
 RunEnds p limit coming held left now Ended = EndsAfter p coming held left now (λ n rest. (n ≤ limit) × IsAtEnd rest)
 RunEnds p limit coming held left now (Bad_row line fault) = EndsAfter p coming held left now (λ n rest. (n < limit) × (line ≡ n + 1) × NextIsBad (input_shape p) fault rest)
 RunEnds p limit coming held left now (Limit rows) = (rows ≡ limit) × EndsAfter p coming held left now (λ n rest. (n ≡ limit) × HasNext rest)
-RunEnds p limit coming held left now ReadFault = EndsAfter p coming held left now (λ n rest. ⊤)
+RunEnds p limit coming held left now ReadFault = EndsAfter p coming held left now (λ n rest. (n ≤ limit) × IsCutOff rest left)
 RunEnds p limit coming held left now WriteFault = EndsInPart p coming held left now
 RunEnds p limit coming held left now end = ⊥

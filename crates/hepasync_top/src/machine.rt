@@ -6,9 +6,9 @@ ghost use Rattle.step_objects.specs.Shapes.{FitsShape};
 ghost use Rattle.step_cells.specs.Cells.{row_of};
 ghost use Rattle.hepasync_top.specs.Machine.{ReadsRow, EndsHere};
 
-use crate::stepper::Stepper;
 use hept_ast::{Memory, Program, meaning_laws};
 use hept_io::{LineFault, LineReader, Sink, Source};
+use plain_stepper::{Stepper, served_clock_law};
 use run_messages::{BadRow, End};
 use std::alloc::Global;
 use step_objects::{Cell, Shape};
@@ -29,8 +29,7 @@ pub(crate) struct Machine {
 impl Machine {
     ghost use Rattle.std.specs.Prelude.{◌≡◌, ℕ, ◌≤◌, List, ◌∷◌, ◌++◌, [], Err, OnOk, IfOk};
     ghost use Rattle.hept_ast.specs.declared.tree.Program.{Program};
-    ghost use Rattle.hept_ast.specs.Limits.{all_faults};
-    ghost use Rattle.hepasync_top.specs.Served.{IsServed};
+    ghost use Rattle.run_checks.specs.Stops.{IsRunnable};
     ghost use Rattle.hept_io.specs.Lines.{to_come};
     ghost use Rattle.hept_io.specs.Outside.{Rose};
     ghost use Rattle.hepasync_top.specs.Machine.{CanTurn, HasDone, Turns};
@@ -38,8 +37,7 @@ impl Machine {
 
     /// Makes all that takes memory, for a program.
     pub(crate) fn new(alloc: Global, program: &Program) -> Result<Machine, Memory>
-        requires clean { all_faults program.now ≡ [] }
-        requires served { IsServed program.now }
+        requires { IsRunnable program.now }
         ensures can { IfOk result (λ m. CanTurn m) }
         ensures done { IfOk result (λ m. HasDone program.now m [] []) }
         ensures pending { IfOk result (λ m. m.reader.pending ≡ []) }
@@ -120,6 +118,7 @@ impl Machine {
         ensures writes { K.faults out.old ≤ K.faults out.new }
     {
         meaning_laws();
+        served_clock_law();
         for counted in 0..limit {
             if let Err(end) = self.turn(counted + 1, trace, out) {
                 return end;
@@ -138,7 +137,8 @@ fn end_of_trace<S: Source>(reader: &mut LineReader, limit: u32, trace: &mut S) -
 {
     match reader.next(trace) {
         Ok(None) => End::Ended,
-        Ok(Some(_)) | Err(LineFault::TooLong) => End::Limit(limit),
+        Ok(Some(_line)) => End::Limit(limit),
+        Err(LineFault::TooLong) => End::Limit(limit),
         Err(LineFault::Failed) => End::ReadFault,
     }
 }

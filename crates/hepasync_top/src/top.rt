@@ -5,15 +5,14 @@ ghost use Rattle.hept_io.specs.Outside.{Rose};
 ghost use Rattle.run_messages.specs.Ends.{status_of};
 ghost use Rattle.run_messages.specs.declared.end.Refusal.{Refusal as AnyRefusal};
 ghost use Rattle.hepasync_top.specs.Machine.{HasDone, IsFresh};
-ghost use Rattle.hepasync_top.specs.Stops.{FileIsRefused, FileIsUnread, IsRefused, IsUnforeseen, StopsFor};
-ghost use Rattle.hepasync_top.specs.Run.{ComesTo, Ends, EndsWhole, HasNoneLeft, IsProgramFile, RefusesAll, RefusesExactly, RunsServed, WritesOnlyAfterReading, WrittenWhereTold};
-ghost use Rattle.hepasync_top.specs.Words.{file_of};
+ghost use Rattle.run_checks.specs.Stops.{FileIsRefused, FileIsUnread, IsProgramFile, IsRefused, IsUnforeseen, StopsFor};
+ghost use Rattle.hepasync_top.specs.Run.{ComesTo, Ends, IsBefore, EndsWhole, HasNoneLeft, RefusesAll, RefusesExactly, RunsServed, WritesOnlyAfterReading, WrittenWhereTold};
+ghost use Rattle.run_checks.specs.Words.{file_of};
 
-use crate::checks::read_checked;
 use crate::machine::Machine;
-use crate::words::{file_of, read_text};
 use hept_ast::Memory;
 use hept_io::{Gate, Sink, Source, Store, line_laws};
+use run_checks::{file_of, read_checked, read_text};
 use run_messages::{End, write_line};
 use std::alloc::Global;
 
@@ -62,7 +61,7 @@ fn run_to_end<F: Store, S: Source, K: Sink>(
     out: &mut K,
 ) -> End
     ensures ends { Ends 4294967294 (F.files files.old) (map string_bytes words.now) (F.faults files.old) (F.faults files.new)
-        (S.left trace.old) (K.held out.old) (S.left trace.new) (K.held out.new) result }
+        (S.left trace.old) (K.held out.old) (S.left trace.new) (K.held out.new) ((trace.new ≡ trace.old) × (out.new ≡ out.old)) result }
     ensures usage { file_of (map string_bytes words.now) ≡ None → result ≡ End.Usage }
     ensures refuses_text { RefusesExactly (F.files files.old) (map string_bytes words.now) result }
     ensures refuses { RefusesAll (F.files files.old) (map string_bytes words.now) result }
@@ -104,13 +103,13 @@ pub fn run<R, F: Store, S: Source, K: Sink, E: Sink, G: Gate>(
 
     // How and why it ends at each status, and the line that says so.
     ensures ends { ComesTo 4294967294 (F.files files.old) (map string_bytes words.now) (F.faults files.old) (F.faults files.new)
-        (S.left trace.old) (K.held out.old) (S.left trace.new) (K.held out.new) (E.held err.old) (E.held err.new) (E.faults err.old) (E.faults err.new) result.status }
+        (S.left trace.old) (K.held out.old) (S.left trace.new) (K.held out.new) ((trace.new ≡ trace.old) × (out.new ≡ out.old)) (E.held err.old) (E.held err.new) (E.faults err.old) (E.faults err.new) result.status }
     ensures status { result.status ≤ 8 }
     ensures untouched { WritesOnlyAfterReading (S.left trace.old) (S.left trace.new) (K.held out.old) (K.held out.new) }
     ensures usage { (result.status ≡ 2) ↔ (file_of (map string_bytes words.now) ≡ None) }
     ensures read_fault { result.status ≡ 6 → Rose (S.faults trace.old) (S.faults trace.new) }
     ensures write_fault { result.status ≡ 7 → Rose (K.faults out.old) (K.faults out.new) }
-    ensures memory { result.status ≡ 8 → (S.left trace.new ≡ S.left trace.old) × (K.held out.new ≡ K.held out.old) }
+    ensures stopped { IsBefore result.status → (trace.new ≡ trace.old) × (out.new ≡ out.old) }
     ensures quiet { result.status ≡ 0 → err.new ≡ err.old }
 
     // A program that is served runs to the end of a trace whose lines all spell rows.

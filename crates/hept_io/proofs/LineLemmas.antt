@@ -1,5 +1,5 @@
 -- Newlines in parts of bytes.
-use Rattle.std.proofs.Common.{◌≡◌, ◌≢◌, ℕ, ◌+◌, ◌-◌, ◌<◌, ◌≤◌, List, [], ◌∷◌, ◌++◌, length, take, drop, get_or, slice_range, refl, sym, ap, ◌∙◌, subst, arith, take-append-drop, length-take-le}
+use Rattle.std.proofs.Common.{◌≡◌, ◌≢◌, ℕ, ◌+◌, ◌-◌, ◌<◌, ◌≤◌, List, [], ◌∷◌, ◌++◌, length, take, drop, get_or, slice_range, refl, sym, ap, ◌∙◌, subst, arith, take-append-drop, length-take, length-take-le}
 use Rattle.std.specs.Prelude.{Option}
 use Rattle.std.proofs.lemmas.List.{drop-take, take-take, drop-append-le, take_at, drop_at, append-nil, drop-drop, drop_more}
 use Rattle.std.proofs.lemmas.List.Elements.{All-append}
@@ -9,7 +9,8 @@ use Rattle.std.specs.Io.KnownBytes.{Consumes}
 use Rattle.std.proofs.KnownBytes.{Consumes-nil, Consumes-more}
 use Rattle.std.proofs.Transfers.{starts_with_trans}
 use Rattle.hept_io.specs.Lines.{HasNoNewline}
-use Rattle.hept_io.specs.Unread.{Came}
+use Rattle.hept_io.specs.Unread.{Came, unread}
+use Rattle.hept_io.specs.declared.ahead.Ahead.{Ahead}
 
 -- none in the front and none in the rest
 pub HasNoNewline-parts : (n : ℕ) (bytes : List ℕ) → HasNoNewline (take n bytes) → HasNoNewline (drop n bytes) → HasNoNewline bytes
@@ -64,3 +65,10 @@ slice_range-behind xs s e at h =
 cut_at : (xs : List ℕ) (at : ℕ) → at < length xs → get_or xs at 0 ≡ 10 → xs ≡ take at xs ++ 10 ∷ drop (at + 1) xs
 cut_at xs at within is =
     sym (take-append-drop at xs) ∙ ap (λ l. take at xs ++ l) (drop_more xs at 0 within ∙ ap (λ b. b ∷ drop (at + 1) xs) is)
+
+-- at most one buffer is pending
+pub few_unread : (a : Ahead) → length (unread a) ≤ 65536
+few_unread a =
+    let taken = length-take (a.end - a.start) (drop a.start a.buf.items) in
+    let few : length (take (a.end - a.start) (drop a.start a.buf.items)) ≤ 65536 = omega (arith, taken, a.in_bounds, a.whole) in
+    few

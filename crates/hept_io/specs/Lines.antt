@@ -1,5 +1,5 @@
 -- The lines of bytes, and what a call of a line reader does to the bytes that are not yet given.
-use Rattle.std.specs.Prelude.{◌≡◌, ◌≢◌, ℕ, ◌<◌, ◌==◌, Bool, true, false, List, [], ◌∷◌, ◌++◌, length, All, Option, None, Some, Result, Ok, Err, ◌⊎◌, ⊤, IfSome, if◌then◌else◌}
+use Rattle.std.specs.Prelude.{◌≡◌, ◌≢◌, ℕ, ◌<◌, ◌≤◌, ◌==◌, Bool, true, false, List, [], ◌∷◌, ◌++◌, length, All, Option, None, Some, Result, Ok, Err, ◌⊎◌, ⊤, IfSome, if◌then◌else◌}
 use Rattle.std.specs.Borrow.{Bor}
 use Rattle.std.specs.Io.KnownBytes.{Consumes, IsAtEnd, Keeps, prepend_known}
 use Rattle.hept_io.specs.declared.lines.LineFault.{LineFault}
@@ -59,9 +59,10 @@ pub record Reading : Type 0 where
 abbrev pub to_come : Reading → Option (List ℕ) → Option (List ℕ)
 to_come reading left = prepend_known reading.pending left
 
--- a call gave a line
+-- a call gave a line, and at most one buffer is pending
 pub record GivesLine (old : Reading) (left : Option (List ℕ)) (line : List ℕ) (new : Reading) (rest : Option (List ℕ)) : Type 0 where
   pub goes_on : new.is_spent ≡ false
+  pub few : length new.pending ≤ 65536
   pub loses : LosesLine (to_come old left) line (to_come new rest)
 
 -- a call came to the end: no byte was pending, and none was left

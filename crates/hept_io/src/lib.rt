@@ -13,6 +13,3 @@ pub use laws::line_laws;
 pub use lines::{LineFault, LineReader};
 pub use memory::{MemorySink, MemorySource, MemoryStore, OpenGate};
 pub use outside::{Failed, Gate, Memory, Sink, Source, Store, StoreFault};
-
-#[cfg(test)]
-mod tests;

@@ -200,12 +200,17 @@ fn reset_call(rt: HostRuntime) -> Result<(), Fail> {
     with_sum(&rt, rt.alloc(), main, inputs, "1|3|3|7")
 }
 
-fn repeated(alloc: Global, first: &str, line: &str, times: usize) -> Result<String, Fail> {
-    let mut text = String::new(alloc);
-    text.push_str(first)?;
+fn push_times(text: &mut String, line: &str, times: usize) -> Result<(), Fail> {
     for _ in 0..times {
         text.push_str(line)?;
     }
+    Ok(())
+}
+
+fn repeated(alloc: Global, first: &str, line: &str, times: usize) -> Result<String, Fail> {
+    let mut text = String::new(alloc);
+    text.push_str(first)?;
+    push_times(&mut text, line, times)?;
     Ok(text)
 }
 
@@ -226,35 +231,31 @@ fn kept_future(rt: HostRuntime) -> Result<(), Fail> {
 const POINTING: &str =
     "type mode = Coarse | Fine node estimate(star:int) returns (att:int) let att = star + ((0 fby att) / 2) tel node main(gyro,star:int) returns (cmd:int; m:mode) var t,est:int; tick:bool; f1 : future int; let t = 0 fby (if t = 9 then 0 else t + 1); tick = (t = 0); f1 = async estimate(star when tick); est = merge tick (true -> !((async 0) fby f1)) (false -> (0 fby est) whenot tick); automaton state Far do m = Coarse; cmd = 0 - (est / 4) - gyro until est < 100 & est > -100 then Near state Near do m = Fine; cmd = 0 - (est / 16) - gyro / 2 unless est >= 100 or est <= -100 then Far end tel";
 
+// What the pointing program gives, and how many times.
+const POINTED: [(&str, usize); 8] = [
+    ("|-4 1", 9),
+    ("|-48 0", 10),
+    ("|-68 0", 10),
+    ("|-78 0", 10),
+    ("|-83 0", 10),
+    ("|-85 0", 10),
+    ("|-86 0", 10),
+    ("|-87 0", 130),
+];
+
+fn pointed(alloc: Global) -> Result<String, Fail> {
+    let mut text = String::new(alloc);
+    text.push_str("-8 0")?;
+    for (line, times) in &POINTED {
+        push_times(&mut text, line, *times)?;
+    }
+    Ok(text)
+}
+
 #[test]
 fn pointing(rt: HostRuntime) -> Result<(), Fail> {
     let inputs = repeated(rt.alloc(), "8 160", "|8 160", 199)?;
-    let mut outputs = String::new(rt.alloc());
-    outputs.push_str("-8 0")?;
-    for _ in 0..9 {
-        outputs.push_str("|-4 1")?;
-    }
-    for _ in 0..10 {
-        outputs.push_str("|-48 0")?;
-    }
-    for _ in 0..10 {
-        outputs.push_str("|-68 0")?;
-    }
-    for _ in 0..10 {
-        outputs.push_str("|-78 0")?;
-    }
-    for _ in 0..10 {
-        outputs.push_str("|-83 0")?;
-    }
-    for _ in 0..10 {
-        outputs.push_str("|-85 0")?;
-    }
-    for _ in 0..10 {
-        outputs.push_str("|-86 0")?;
-    }
-    for _ in 0..130 {
-        outputs.push_str("|-87 0")?;
-    }
+    let outputs = pointed(rt.alloc())?;
     gives(
         &rt,
         rt.alloc(),

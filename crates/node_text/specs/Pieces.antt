@@ -1,8 +1,7 @@
 -- The parts of a node's text without what stands around them, as code holds them.
 use Rattle.std.specs.Prelude.{List, map}
-use Rattle.hept_ast.specs.Texts.{Name, names}
 use Rattle.hept_ast.specs.InnerParts.{state_names}
-use Rattle.hept_ast.specs.Parts.{Part, Transition, declared_in, equation_case, branch_case, state_case, block_sets}
+use Rattle.hept_ast.specs.Parts.{Part, Transition, equation_case, branch_case, state_case, block_sets}
 use Rattle.hept_ast.specs.Parts as parts
 use Rattle.node_text.specs.declared.pieces.Piece as piece
 use Rattle.node_text.specs.declared.pieces.Piece.TheVariants as variant
@@ -15,7 +14,3 @@ piece_of (variant.Switch place on branches) = parts.Switch place.0 on.now (map b
 piece_of (variant.Reset place every block) = parts.Reset place.0 every.now (block_sets block.now)
 piece_of (variant.Automaton place states) = parts.Automaton place.0 (map state_case states.now)
 piece_of (variant.Transition strong states escape) = Transition strong (state_names states.now) escape.now
-
--- the names that a part declares
-abbrev pub declared_names : Part → List Name
-declared_names q = names (declared_in q)

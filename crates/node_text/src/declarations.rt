@@ -2,9 +2,9 @@
 ghost use Rattle.std.specs.Prelude.{◌≡◌, ◌++◌, ◌∷◌, [], IfOk, OnOk, map};
 ghost use Rattle.std.specs.Option.{option_copied};
 ghost use Rattle.std.specs.List.{flat_map};
-ghost use Rattle.hept_ast.specs.Parts.{declaration, variables};
+ghost use Rattle.hept_ast.specs.Parts.{declaration, declared_in, variables};
 ghost use Rattle.hept_ast.specs.Texts.{names};
-ghost use Rattle.node_text.specs.Pieces.{declared_names, piece_of};
+ghost use Rattle.node_text.specs.Pieces.{piece_of};
 
 use crate::names::{is_same, push_name};
 use crate::pieces::{Piece, push_equations};
@@ -85,7 +85,8 @@ pub fn own_declarations<'a>(alloc: Global, node: &'a Node) -> Result<Vec<&'a Dec
     Ok(seen)
 }
 
-fn push_declared_names<'a>(out: &mut Vec<&'a Name>, decls: &'a [Decl]) -> Result<(), Memory>
+/// Appends the names of some declarations.
+pub fn push_declared_names<'a>(out: &mut Vec<&'a Name>, decls: &'a [Decl]) -> Result<(), Memory>
     ensures { OnOk result (map (λ r. r.now) out.new.items ≡ map (λ r. r.now) out.old.items ++ names decls.now) }
 {
     for decl in decls {
@@ -94,11 +95,11 @@ fn push_declared_names<'a>(out: &mut Vec<&'a Name>, decls: &'a [Decl]) -> Result
     Ok(())
 }
 
-fn push_of_piece<'a>(out: &mut Vec<&'a Name>, piece: Piece<'a>) -> Result<(), Memory>
-    ensures { OnOk result (map (λ r. r.now) out.new.items ≡ map (λ r. r.now) out.old.items ++ declared_names (piece_of piece.entry)) }
+fn push_of_piece<'a>(out: &mut Vec<&'a Decl>, piece: Piece<'a>) -> Result<(), Memory>
+    ensures { OnOk result (map (λ r. r.now) out.new.items ≡ map (λ r. r.now) out.old.items ++ declared_in (piece_of piece.entry)) }
 {
     match piece {
-        Piece::Block(locals, _) => push_declared_names(out, locals),
+        Piece::Block(locals, _) => push_declared(out, locals),
         Piece::Plain(_, _, _) => Ok(()),
         Piece::Switch(_, _, _) => Ok(()),
         Piece::Reset(_, _, _) => Ok(()),
@@ -107,8 +108,8 @@ fn push_of_piece<'a>(out: &mut Vec<&'a Name>, piece: Piece<'a>) -> Result<(), Me
     }
 }
 
-fn push_of_pieces<'a>(out: &mut Vec<&'a Name>, pieces: &[Piece<'a>]) -> Result<(), Memory>
-    ensures { OnOk result (map (λ r. r.now) out.new.items ≡ map (λ r. r.now) out.old.items ++ flat_map declared_names (map piece_of pieces.now)) }
+fn push_of_pieces<'a>(out: &mut Vec<&'a Decl>, pieces: &[Piece<'a>]) -> Result<(), Memory>
+    ensures { OnOk result (map (λ r. r.now) out.new.items ≡ map (λ r. r.now) out.old.items ++ flat_map declared_in (map piece_of pieces.now)) }
 {
     for piece in pieces {
         push_of_piece(out, *piece)?;
@@ -118,15 +119,34 @@ fn push_of_pieces<'a>(out: &mut Vec<&'a Name>, pieces: &[Piece<'a>]) -> Result<(
 
 /// All variables of a node, those of its blocks included, in the order of the text.
 #[tactic(auto, using(crate::proofs::Variables::variables_of))]
-pub fn node_variables<'a>(alloc: Global, node: &'a Node) -> Result<Vec<&'a Name>, Memory>
-    ensures { IfOk result (λ v. map (λ r. r.now) v.items ≡ names (variables node.now)) }
+pub fn node_declarations<'a>(alloc: Global, node: &'a Node) -> Result<Vec<&'a Decl>, Memory>
+    ensures { IfOk result (λ v. map (λ r. r.now) v.items ≡ variables node.now) }
 {
     let mut pieces = Vec::new(alloc);
     push_equations(&mut pieces, node.block.body.as_slice())?;
     let mut out = Vec::new(alloc);
-    push_declared_names(&mut out, node.inputs.as_slice())?;
-    push_declared_names(&mut out, node.outputs.as_slice())?;
-    push_declared_names(&mut out, node.block.locals.as_slice())?;
+    push_declared(&mut out, node.inputs.as_slice())?;
+    push_declared(&mut out, node.outputs.as_slice())?;
+    push_declared(&mut out, node.block.locals.as_slice())?;
     push_of_pieces(&mut out, &pieces)?;
+    Ok(out)
+}
+
+fn push_names_of<'a>(out: &mut Vec<&'a Name>, decls: &[&'a Decl]) -> Result<(), Memory>
+    ensures { OnOk result (map (λ r. r.now) out.new.items ≡ map (λ r. r.now) out.old.items ++ names (map (λ r. r.now) decls.now)) }
+{
+    for decl in decls {
+        push_name(out, &decl.name)?;
+    }
+    Ok(())
+}
+
+/// The names of all variables of a node.
+pub fn node_variables<'a>(alloc: Global, node: &'a Node) -> Result<Vec<&'a Name>, Memory>
+    ensures { IfOk result (λ v. map (λ r. r.now) v.items ≡ names (variables node.now)) }
+{
+    let decls = node_declarations(alloc, node)?;
+    let mut out = Vec::new(alloc);
+    push_names_of(&mut out, &decls)?;
     Ok(out)
 }

@@ -8,7 +8,8 @@ mod pieces;
 mod sets;
 
 pub use declarations::{
-    declaration, declaration_at, declared_inside, node_variables, own_declarations,
+    declaration, declaration_at, declared_inside, node_declarations, node_variables,
+    own_declarations, push_declared_names,
 };
 pub use expressions::{node_expressions, push_expressions, push_inside};
 pub use names::{is_among, is_listed, is_same, push_listed, push_name, push_names};

@@ -21,7 +21,7 @@ use Rattle.hept_ast.specs.declared.tree.Equation.TheOpen.{Equation-F}
 use Rattle.hept_ast.specs.declared.tree.Equation.TheViews.{out-roll-Equation}
 use Rattle.hept_ast.specs.declared.tree.Equation.TheVariants as eqv
 use Rattle.hept_ast.proofs.CallPlacesOf.{form_view, expr_is, equation_view, equation_is}
-use Rattle.ept_reader.specs.Grammar.{at}
+use Rattle.ept_grammar.specs.Grammar.{at}
 use Rattle.read_laws.proofs.Sublists.{Sub, taken, passed, all}
 
 -- ---- forms

@@ -11,12 +11,12 @@ use Rattle.hept_ast.specs.declared.tree.Ty.{Ty}
 use Rattle.hept_ast.specs.declared.tree.Form.TheVariants as form
 use Rattle.hept_ast.specs.declared.tree.Const.TheVariants as const
 use Rattle.hept_ast.specs.declared.tree.UnaryOp.TheVariants as unary
-use Rattle.ept_reader.specs.declared.token.Kind.{Kind}
-use Rattle.ept_reader.specs.declared.token.Level.{Level}
-use Rattle.ept_reader.specs.declared.token.Level.TheVariants as level
-use Rattle.ept_reader.specs.declared.token.Sample.{Sample}
-use Rattle.ept_reader.specs.declared.token.Token.{Token}
-use Rattle.ept_reader.specs.Grammar.{Part, Whole, Item, Type_dec, Constructor_list, Node_dec, Interface, Input_list, Output_list, Node_body, Inputs, More_inputs, Input, Names, Locals, Decls, More_decls, Last_decls, Declaration, Initial, Constant, Eqs, More_eqs, Eq, Several, Switching, Resetting, Branch_list, Branches, Branch_of, Block_of, Block_locals, State_list, States, State_of, Transitions, Weak, Strong, Escapes, Escape_list, More_escapes, Escape_of, Expression, Choosing, Then_part, Else_part, Arrows, Arrow_tail, Fbys, Fby_tail, Sampled, Infix, Operand, Operands, Prefix, Signed, After_minus, Atom, Literal, Call_tail, Called, Merging, Merge_list, Merge_branches, Merge_branch, Async_tail, Args, More_args, Symbol, word, part, Signed_operand, Value, Values, Rule, rules, at, signs, sign, grouped, sampled, between, named, names_of, declared, negative, negated, size, infix_rule}
+use Rattle.ept_tokens.specs.declared.token.Kind.{Kind}
+use Rattle.ept_grammar.specs.declared.parts.Level.{Level}
+use Rattle.ept_grammar.specs.declared.parts.Level.TheVariants as level
+use Rattle.ept_grammar.specs.declared.parts.Sample.{Sample}
+use Rattle.ept_tokens.specs.declared.token.Token.{Token}
+use Rattle.ept_grammar.specs.Grammar.{Part, Whole, Item, Type_dec, Constructor_list, Node_dec, Interface, Input_list, Output_list, Node_body, Inputs, More_inputs, Input, Names, Locals, Decls, More_decls, Last_decls, Declaration, Initial, Constant, Eqs, More_eqs, Eq, Several, Switching, Resetting, Branch_list, Branches, Branch_of, Block_of, Block_locals, State_list, States, State_of, Transitions, Weak, Strong, Escapes, Escape_list, More_escapes, Escape_of, Expression, Choosing, Then_part, Else_part, Arrows, Arrow_tail, Fbys, Fby_tail, Sampled, Infix, Operand, Operands, Prefix, Signed, After_minus, Atom, Literal, Call_tail, Called, Merging, Merge_list, Merge_branches, Merge_branch, Async_tail, Args, More_args, Symbol, word, part, Signed_operand, Value, Values, Rule, rules, at, signs, sign, grouped, sampled, between, named, names_of, declared, negative, negated, size, infix_rule}
 use Rattle.hept_ast.specs.TypedValues.{FitsConst}
 use Rattle.accepted_meaning.specs.Ranges.{FitsInit}
 use Rattle.read_laws.proofs.PartPlaces.{Each}

@@ -3,11 +3,11 @@ use Rattle.std.proofs.Common.{◌≡◌, ℕ, ◌<◌, Bool, true, false, List, 
 use Rattle.std.specs.Prelude.{if◌then◌else◌, nat_le, pos, FitsSigned}
 use Rattle.std.specs.Int.{w32}
 use Rattle.hept_ast.specs.Parts.{expressions, parts, variables}
-use Rattle.ept_reader.specs.declared.token.Kind.{Kind}
-use Rattle.ept_reader.specs.declared.token.Role.{Role}
-use Rattle.ept_reader.specs.declared.token.Token.{Token}
-use Rattle.ept_reader.specs.Grammar.{Symbol, word, part, Values, joined, place_of, Spells}
-use Rattle.ept_reader.specs.Tokens.{Bytes, Reason, NumberTooLarge, Front, Blank, Word, Wrong, front, is_blank, begins_comment, comment_length, comment_front, token_front, longest, number_of, Cut}
+use Rattle.ept_tokens.specs.declared.token.Kind.{Kind}
+use Rattle.ept_grammar.specs.declared.parts.Role.{Role}
+use Rattle.ept_tokens.specs.declared.token.Token.{Token}
+use Rattle.ept_grammar.specs.Grammar.{Symbol, word, part, Values, joined, place_of, Spells}
+use Rattle.ept_tokens.specs.Tokens.{Bytes, Reason, NumberTooLarge, Front, Blank, Word, Wrong, front, is_blank, begins_comment, comment_length, comment_front, token_front, longest, number_of, Cut}
 use Rattle.accepted_meaning.specs.Ranges.{HasLeft}
 use Rattle.read_laws.specs.Laws.{ReadInRange}
 use Rattle.read_laws.proofs.PartPlaces.{each_at}

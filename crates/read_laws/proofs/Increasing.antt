@@ -2,10 +2,10 @@
 use Rattle.std.proofs.Common.{◌≡◌, ℕ, ◌+◌, ◌<◌, ◌≤◌, Bool, true, false, List, [], ◌∷◌, Option, Some, None, map, length, take, arith, refl}
 use Rattle.std.specs.Prelude.{if◌then◌else◌, nat_le}
 use Rattle.hept_ast.specs.Paths.{IsAmong, at_head, in_tail, AllDiffer}
-use Rattle.ept_reader.specs.declared.token.Kind.{Kind}
-use Rattle.ept_reader.specs.declared.token.Token.{Token}
-use Rattle.ept_reader.specs.Tokens.{Bytes, Reason, NumberTooLarge, Front, Blank, Word, Wrong, front, is_blank, begins_comment, comment_length, comment_front, token_front, longest, number_of, Cut}
-use Rattle.ept_reader.proofs.Longest.{longest_within}
+use Rattle.ept_tokens.specs.declared.token.Kind.{Kind}
+use Rattle.ept_tokens.specs.declared.token.Token.{Token}
+use Rattle.ept_tokens.specs.Tokens.{Bytes, Reason, NumberTooLarge, Front, Blank, Word, Wrong, front, is_blank, begins_comment, comment_length, comment_front, token_front, longest, number_of, Cut}
+use Rattle.ept_tokens.proofs.Longest.{longest_within}
 
 abbrev pub token_places : List Token → List ℕ
 token_places ts = map (λ t. t.place.0) ts

@@ -13,12 +13,12 @@ use Rattle.hept_ast.specs.declared.tree.Form.TheVariants as form
 use Rattle.hept_ast.specs.declared.tree.Const.TheVariants as const
 use Rattle.hept_ast.specs.declared.tree.UnaryOp.TheVariants as unary
 use Rattle.hept_ast.proofs.CallPlacesOf.{form_view}
-use Rattle.ept_reader.specs.declared.token.Kind.{Kind}
-use Rattle.ept_reader.specs.declared.token.Level.{Level}
-use Rattle.ept_reader.specs.declared.token.Level.TheVariants as level
-use Rattle.ept_reader.specs.declared.token.Sample.{Sample}
-use Rattle.ept_reader.specs.declared.token.Token.{Token}
-use Rattle.ept_reader.specs.Grammar.{Among, here, there, Part, Whole, Item, Node_dec, Node_body, Eqs, More_eqs, Eq, Several, Switching, Resetting, Branch_list, Branches, Branch_of, Block_of, State_list, States, State_of, Transitions, Weak, Strong, Escapes, Escape_list, More_escapes, Escape_of, Expression, Choosing, Then_part, Else_part, Arrows, Arrow_tail, Fbys, Fby_tail, Sampled, Infix, Operand, Operands, Prefix, Signed, After_minus, Atom, Literal, Call_tail, Called, Merging, Merge_list, Merge_branches, Merge_branch, Async_tail, Args, More_args, Symbol, word, part, Name, Signed_operand, Value, Values, Rule, rules, at, signs, sign, grouped, sampled, between, named, negative, negated, size, infix_rule}
+use Rattle.ept_tokens.specs.declared.token.Kind.{Kind}
+use Rattle.ept_grammar.specs.declared.parts.Level.{Level}
+use Rattle.ept_grammar.specs.declared.parts.Level.TheVariants as level
+use Rattle.ept_grammar.specs.declared.parts.Sample.{Sample}
+use Rattle.ept_tokens.specs.declared.token.Token.{Token}
+use Rattle.ept_grammar.specs.Grammar.{Among, here, there, Part, Whole, Item, Node_dec, Node_body, Eqs, More_eqs, Eq, Several, Switching, Resetting, Branch_list, Branches, Branch_of, Block_of, State_list, States, State_of, Transitions, Weak, Strong, Escapes, Escape_list, More_escapes, Escape_of, Expression, Choosing, Then_part, Else_part, Arrows, Arrow_tail, Fbys, Fby_tail, Sampled, Infix, Operand, Operands, Prefix, Signed, After_minus, Atom, Literal, Call_tail, Called, Merging, Merge_list, Merge_branches, Merge_branch, Async_tail, Args, More_args, Symbol, word, part, Name, Signed_operand, Value, Values, Rule, rules, at, signs, sign, grouped, sampled, between, named, negative, negated, size, infix_rule}
 use Rattle.read_laws.proofs.Sublists.{Sub, empty, taken, passed, all, left, last, both, two_then, two, through, same_left}
 use Rattle.read_laws.proofs.FormPlaces.{inner, inner_places, at_is, at_sub, out_const, out_var, out_last, out_unary, out_binary, out_if, out_fby, out_pre, out_arrow, out_when, out_merge, out_call, out_async_call, out_async_const, out_get, block_is, branches_places, state_places, define_is, switch_is, reset_is, automaton_is}
 

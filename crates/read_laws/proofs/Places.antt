@@ -10,9 +10,9 @@ use Rattle.hept_ast.proofs.PlacesOfNodes.{program_places_differ}
 use Rattle.hept_ast.proofs.PathsApart.{paths_differ}
 use Rattle.hept_ast.proofs.CallPlacesOf.{places_tell_calls}
 use Rattle.hept_ast.proofs.PathsOf.{paths_tell_calls}
-use Rattle.ept_reader.specs.declared.token.Role.{Role}
-use Rattle.ept_reader.specs.declared.token.Token.{Token}
-use Rattle.ept_reader.specs.Grammar.{Symbol, word, part, Values, joined, place_of, Spells}
+use Rattle.ept_grammar.specs.declared.parts.Role.{Role}
+use Rattle.ept_tokens.specs.declared.token.Token.{Token}
+use Rattle.ept_grammar.specs.Grammar.{Symbol, word, part, Values, joined, place_of, Spells}
 use Rattle.read_laws.specs.Laws.{ReadPlacesDiffer, ReadPathsDiffer, ReadPathsTell}
 use Rattle.read_laws.proofs.Sublists.{Sub, empty, taken, all, left, before, both, through, differ_sub}
 use Rattle.read_laws.proofs.PartPlaces.{nodes_places, places, all_places, Starts_at, Fine, each_at, all_fine}

@@ -9,7 +9,7 @@ use Rattle.hept_ast.specs.ClockMaps.{clock_in}
 use Rattle.hept_ast.specs.Stages.{ClockedProgram, IsAcceptedProgram}
 use Rattle.hept_ast.specs.declared.tree.Node.{Node}
 use Rattle.erased_rules.specs.ErasedStages.{erased_with_clocks}
-use Rattle.ept_reader.specs.Tokens.{Bytes}
+use Rattle.ept_tokens.specs.Tokens.{Bytes}
 use Rattle.ept_reader.specs.Spelling.{IsProgramText}
 
 -- the sites of a node: there is a list of them, no two have one path, and a path tells a site from all calls that are reached

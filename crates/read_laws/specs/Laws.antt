@@ -9,7 +9,7 @@ use Rattle.hept_ast.specs.OwnReplies.{PathsTell}
 use Rattle.hept_ast.specs.Paths.{AllDiffer, LeftsAgree}
 use Rattle.hept_ast.specs.declared.tree.Node.{Node}
 use Rattle.hept_ast.specs.declared.tree.Program.{Program}
-use Rattle.ept_reader.specs.Tokens.{Bytes}
+use Rattle.ept_tokens.specs.Tokens.{Bytes}
 use Rattle.ept_reader.specs.Spelling.{IsProgramText}
 use Rattle.accepted_meaning.specs.Ranges.{IsInRange}
 

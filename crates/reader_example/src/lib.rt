@@ -2,6 +2,10 @@
 #![tactic(auto)]
 
 #[cfg(test)]
+mod bounds;
+#[cfg(test)]
+mod productions;
+#[cfg(test)]
 mod show;
 #[cfg(test)]
 mod tests;

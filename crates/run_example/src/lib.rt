@@ -2,4 +2,17 @@
 #![tactic(auto)]
 
 #[cfg(test)]
-mod tests;
+mod devices;
+#[cfg(test)]
+mod expected;
+mod outcome;
+#[cfg(test)]
+mod outputs;
+#[cfg(test)]
+mod refusals;
+#[cfg(test)]
+mod rows;
+#[cfg(test)]
+mod turns;
+
+pub use outcome::{Failing, NONE, Outcome, outcome_of};

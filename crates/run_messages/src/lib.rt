@@ -3,8 +3,6 @@
 
 mod end;
 mod line;
-#[cfg(test)]
-mod tests;
 
 pub use end::{BadRow, End, FileFault, Refusal};
 pub use line::write_line;

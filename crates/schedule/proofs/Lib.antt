@@ -4,4 +4,3 @@ pub mod Taken
 pub mod Permuted
 pub mod Reordered
 pub mod WellKept
-pub mod TurnedCore

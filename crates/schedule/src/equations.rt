@@ -8,7 +8,7 @@ use sqlite_items::Items;
 use std::alloc::Global;
 
 /// The first equation that reads no left side of those that are left.
-pub(crate) fn first_ready(left: &[CoreEquation]) -> Option<usize>
+pub fn first_ready(left: &[CoreEquation]) -> Option<usize>
     ensures { MatchOption result (All (λ e. waits e left.now ≡ true) left.now) (λ k. IsReady left.now k) }
 {
     for (k, e) in left.iter().enumerate() {

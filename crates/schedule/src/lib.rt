@@ -2,13 +2,10 @@
 #![tactic(auto)]
 
 mod equations;
-mod laws;
 mod nodes;
 mod ordered;
-#[cfg(test)]
-mod tests;
 mod waits;
 
-pub use laws::order_laws;
+pub use equations::first_ready;
 pub use nodes::order;
 pub use ordered::Ordered;

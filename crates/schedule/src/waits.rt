@@ -2,22 +2,10 @@
 ghost use Rattle.std.specs.Prelude.{◌≡◌};
 ghost use Rattle.std.specs.List.{list_any};
 ghost use Rattle.hept_ast.specs.Causal.{reads};
-ghost use Rattle.hept_ast.specs.Texts.{is_in, same};
 ghost use Rattle.schedule.specs.Order.{is_left, waits};
 
 use hept_ast::{CoreEquation, Expr, Form, Name};
-
-fn is_same(x: &Name, y: &Name) -> bool
-    ensures { result ≡ same x.now y.now }
-{
-    x.bytes() == y.bytes()
-}
-
-fn is_among(x: &Name, names: &[Name]) -> bool
-    ensures { result ≡ is_in x.now names.now }
-{
-    names.iter().any(|y| is_same(x, y))
-}
+use node_text::is_among;
 
 /// Whether a name is on the left side of one of the equations.
 fn is_left(left: &[CoreEquation], x: &Name) -> bool

@@ -4,8 +4,6 @@
 
 mod output_text;
 mod row_text;
-#[cfg(test)]
-mod tests;
 mod value_text;
 
 pub use output_text::{RowWriter, write_whole};

@@ -1,6 +1,7 @@
 -- What is answered, by the earliest fault that was found.
-use Rattle.std.proofs.Common.{◌≡◌, List, [], ◌∷◌, ◌++◌, refl, sym, ◌∙◌, subst, Some, None}
+use Rattle.std.proofs.Common.{◌≡◌, List, [], ◌∷◌, ◌++◌, refl, sym, ◌∙◌, ap, subst, Some, None}
 use Rattle.std.specs.Prelude.{Option, IfSome, MatchOption}
+use Rattle.std.specs.Option.{option_map}
 use Rattle.hept_ast.specs.Faults.{Fault}
 use Rattle.hept_ast.specs.Limits.{IsFirst, earliest}
 use Rattle.hept_ast.proofs.Earliest.{earliest-is_first}
@@ -18,3 +19,7 @@ first_part (f ∷ fs) gs e = absurd (let n : ⊥ = cc in n)
 pub said : (o : Option Fault) (fs : List Fault) (f : Fault) → IfSome o (λ g. g ≡ f) → IsFirst fs f → IfSome o (IsFirst fs)
 said None fs f h i = tt
 said (Some g) fs f h i = subst (IsFirst fs) (sym h) i
+
+pub said_first : (o : Option Fault) (q : Option Fault) (f : Fault) → IfSome o (λ g. g ≡ f) → q ≡ Some f → IfSome (option_map (λ g. Some g) o) (λ r. r ≡ q)
+said_first None q f h e = tt
+said_first (Some g) q f h e = ap (λ x. Some x) h ∙ sym e

@@ -1,6 +1,6 @@
 -- Demands on the types of expressions, and the faults of parts.
 use Rattle.std.proofs.Common.{◌≡◌, ℕ, Bool, true, not, List, [], ◌∷◌, ◌++◌, refl, sym, ◌∙◌, ap, map}
-use Rattle.std.specs.Prelude.{Option, None, Some, ◌||◌, Result, Ok, Err, OnOk}
+use Rattle.std.specs.Prelude.{Option, None, Some, ◌||◌}
 use Rattle.std.specs.List.{flat_map, list_any}
 use Rattle.std.specs.Option.{option_map_or}
 use Rattle.hept_ast.specs.Faults.{Fault, Judged, Judging, Mismatch, NotDefined, UnknownName, can_branch, decl_faults, demanded, fault, init_faults, fits_left, lack_faults, left_types, one_type, part_faults, second_definitions, tag_faults, tag_fits, unknown_tag}
@@ -8,21 +8,20 @@ use Rattle.hept_ast.specs.Limits.{earlier_of, earliest}
 use Rattle.hept_ast.specs.Parts as part
 use Rattle.hept_ast.specs.Parts.{branch_case, equation_case, sets_of}
 use Rattle.hept_ast.specs.Types.{Plain_type, same_tag, tags_of, type_is_known, type_of_tag}
-use Rattle.hept_ast.specs.declared.name.Memory.{Memory}
 use Rattle.hept_ast.specs.declared.tree.Branch.{Branch}
 use Rattle.hept_ast.specs.declared.tree.Decl.{Decl}
 use Rattle.hept_ast.specs.declared.tree.Equation.{Equation}
 use Rattle.hept_ast.specs.declared.tree.Init.{Init}
 use Rattle.hept_ast.specs.declared.tree.Tag.{Tag}
 use Rattle.hept_ast.specs.declared.tree.Ty.{Ty}
-use Rattle.type_futures.specs.Defined.{block_faults, undefined_fault}
-use Rattle.type_futures.specs.Tags.{branch_tag_faults, fits_tag, is_left_out, lack_fault, tag_faults_by}
-use Rattle.type_futures.specs.Typing.{decl_faults_by, init_faults_by}
+use Rattle.block_definitions.specs.Defined.{block_faults, undefined_fault}
+use Rattle.declared_types.specs.Tags.{branch_tag_faults, fits_tag, is_left_out, lack_fault, tag_faults_by}
+use Rattle.declared_types.specs.Typing.{decl_faults_by, init_faults_by}
 use Rattle.type_futures.specs.Demands.{has_branches, only_of}
-use Rattle.type_futures.specs.Lefts.{fit_names}
-use Rattle.type_futures.proofs.LeftTypes.{fit_names-is}
+use Rattle.declared_types.specs.Lefts.{fit_names}
+use Rattle.declared_types.proofs.LeftTypes.{fit_names-is}
 use Rattle.hept_ast.specs.Texts.{Name}
-use Rattle.type_futures.proofs.Noting.{any_mapped, flat_mapped, noted_both}
+use Rattle.earliest_fault.proofs.Noting.{any_mapped, flat_mapped}
 use Rattle.type_futures.proofs.Swaps.{noted_last, only_mismatch}
 
 -- ---- demands
@@ -103,9 +102,3 @@ pub lack_is : (w : Judging) (p : ℕ) (bs : List Branch) (on : Option Ty) → la
 lack_is w p bs None = refl
 lack_is w p bs (Some on) =
     ap (fault p NotDefined) (any_same (is_left_out (λ (b : Branch). b.tag) bs) (λ t. not (list_any (same_tag t) (map (λ c. c.label) (map branch_case bs)))) (tags_of w.types on) (left_out_is bs))
-
--- ---- a last step that may want memory
-
-pub also_noted : (fs gs : List Fault) (first o q : Option Fault) (r : Result (Unit {0}) Memory) → o ≡ earlier_of first (earliest fs) → OnOk r (q ≡ earlier_of o (earliest gs)) → OnOk r (q ≡ earlier_of first (earliest (fs ++ gs)))
-also_noted fs gs first o q (Ok x) e h = noted_both fs gs first o q e h
-also_noted fs gs first o q (Err x) e h = tt

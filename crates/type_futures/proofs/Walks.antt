@@ -21,7 +21,7 @@ use Rattle.hept_ast.specs.declared.tree.State.{State}
 use Rattle.type_futures.specs.Walk.{branch_faults, equation_faults, escape_faults, faults_at, inner_faults, own_decls, seen_faults, state_faults}
 use Rattle.hept_ast.specs.Limits.{earlier_of, earliest}
 use Rattle.std.specs.Prelude.{Option}
-use Rattle.type_futures.proofs.Noting.{flat_mapped, noted_both}
+use Rattle.earliest_fault.proofs.Noting.{flat_mapped, noted_both}
 use Rattle.type_futures.proofs.OwnSeen.{own_in, own_parts}
 
 flat_append : {Y Z : Type 0} (f : Y → List Z) (ys zs : List Y) → flat_map f (ys ++ zs) ≡ flat_map f ys ++ flat_map f zs

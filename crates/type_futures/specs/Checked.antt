@@ -1,5 +1,6 @@
 -- What the checker answers.
-use Rattle.std.specs.Prelude.{Option, Some, None, IfSome}
+use Rattle.std.specs.Prelude.{Option, Some, None, IfSome, Result, Ok, Err}
+use Rattle.std.specs.Option.{option_map}
 use Rattle.hept_ast.specs.Faults as faults
 use Rattle.hept_ast.specs.Faults.{Fault}
 use Rattle.hept_ast.specs.Limits.{IsFirst, all_faults}
@@ -23,3 +24,8 @@ answered Memory = None
 -- what is answered is the first of the program's faults
 abbrev pub IsTypeFault : Program → TypeFault → Type 0
 IsTypeFault program t = IfSome (answered t) (IsFirst (all_faults program))
+
+-- what an answer says that the earliest fault is, none where a program is given back; want of memory says nothing
+abbrev pub said_earliest : {A : Type 0} → Result A TypeFault → Option (Option Fault)
+said_earliest (Ok a) = Some None
+said_earliest (Err t) = option_map (λ f. Some f) (answered t)

@@ -2,7 +2,7 @@
 use Rattle.std.specs.Prelude.{Bool, false, List, [], ◌∷◌, Option, None, Some}
 use Rattle.hept_ast.specs.Types.{has_tags}
 use Rattle.hept_ast.specs.declared.tree.Ty.{Ty}
-use Rattle.type_futures.specs.Types.{only}
+use Rattle.declared_types.specs.Types.{only}
 
 -- the one type, where there are types
 abbrev pub only_of : Option (List Ty) → Option Ty

@@ -6,24 +6,13 @@ use Rattle.hept_ast.specs.Faults.{Fault, seconds}
 use Rattle.hept_ast.specs.declared.tree.Program.{Program}
 use Rattle.hept_ast.specs.declared.tree.TypeDec.{TypeDec}
 use Rattle.hept_ast.specs.declared.tree.Node.{Node}
-use Rattle.hept_ast.specs.declared.tree.State.{State}
-use Rattle.type_futures.specs.declared.names.Label.{Label}
-
-abbrev pub label_of : Label → ℕ × Name
-label_of l = (l.place.0, l.name.now)
+use Rattle.earliest_fault.specs.Labels.{names_at}
 
 abbrev pub type_label : TypeDec → ℕ × Name
 type_label t = (t.place.0, t.name)
 
 abbrev pub node_label : Node → ℕ × Name
 node_label n = (n.place.0, n.name)
-
-abbrev pub state_label : State → ℕ × Name
-state_label q = (q.place.0, q.name)
-
--- names that have one place
-abbrev pub names_at : ℕ → List Name → List (ℕ × Name)
-names_at p xs = map (λ x. (p, x)) xs
 
 -- the constructors of a type, at the place of its declaration
 abbrev pub constructor_labels : TypeDec → List (ℕ × Name)

@@ -7,7 +7,7 @@ use Rattle.hept_ast.specs.Types.{is_plain}
 use Rattle.hept_ast.specs.declared.tree.Decl.{Decl}
 use Rattle.hept_ast.specs.declared.tree.Node.{Node}
 use Rattle.hept_ast.specs.declared.tree.Program.{Program}
-use Rattle.type_futures.specs.declared.scene.NodeScene.{NodeScene}
+use Rattle.expression_types.specs.declared.scenes.NodeScene.{NodeScene}
 
 -- the program that a node is judged in
 abbrev pub program_of : NodeScene → Program

@@ -11,7 +11,7 @@ use Rattle.hept_ast.specs.declared.tree.Equation.{Equation}
 use Rattle.hept_ast.specs.declared.tree.Escape.{Escape}
 use Rattle.hept_ast.specs.declared.tree.Node.{Node}
 use Rattle.hept_ast.specs.declared.tree.State.{State}
-use Rattle.type_futures.specs.declared.scene.NodeScene.{NodeScene}
+use Rattle.expression_types.specs.declared.scenes.NodeScene.{NodeScene}
 
 -- the same node, where these are seen
 abbrev pub judging_at : Judging → (seen : List Decl) → (strong : Bool) → Judging

@@ -6,19 +6,18 @@ ghost use Rattle.hept_ast.specs.Faults as faults_;
 ghost use Rattle.hept_ast.specs.Faults.{faults, node_faults};
 ghost use Rattle.hept_ast.specs.Limits.{all_faults, earlier_of, earliest};
 ghost use Rattle.hept_ast.specs.Texts.{is_in};
-ghost use Rattle.type_futures.specs.Checked.{IsTypeFault, answered};
-ghost use Rattle.type_futures.specs.Graph.{IsGraphOf};
-ghost use Rattle.type_futures.specs.Noted.{fault_of};
+ghost use Rattle.type_futures.specs.Checked.{IsTypeFault, answered, said_earliest};
+ghost use Rattle.call_graph.specs.Graph.{IsGraphOf};
+ghost use Rattle.earliest_fault.specs.Noted.{fault_of};
 
-use crate::found::{Fault, Found, Kind};
-use crate::gathered::gather;
-use crate::graph::{CallGraph, leading_to};
-use crate::limits::note_limits;
-use crate::names::note_second_declarations;
 use crate::nodes::note_node;
-use crate::scene::NodeScene;
+use crate::seconds::note_second_declarations;
+use call_graph::{CallGraph, leading_to};
+use earliest_fault::{Fault, Found, Kind};
+use expression_types::NodeScene;
 use hept_ast::{Memory, Node, Place, Program, TypeDec, Typed};
 use std::alloc::Global;
+use text_limits::note_limits;
 use thiserror::Error;
 
 /// What is wrong with a program.
@@ -77,8 +76,7 @@ fn note_node_of(
         is_async: leading.is_async,
         is_nested: leading.is_nested,
     };
-    let text = gather(alloc, node)?;
-    note_node(alloc, found, &around, &text)
+    note_node(alloc, found, &around)
 }
 
 #[tactic(auto, using(hept_ast::proofs::Earliest::earliest_of))]
@@ -148,12 +146,14 @@ fn answer(fault: Fault) -> TypeFault
     }
 }
 
-/// Checks names, types, futures and limits. The program is given back as it was where nothing is
-/// wrong with it; else the fault of least place is answered, and at one place the one of least number.
+/// Checks names, types, futures and limits. The program is given back as it was exactly where nothing
+/// is wrong with it; else the fault of least place is answered, and at one place the one of least number.
+/// `Memory` is answered for want of memory, and for a first fault with a count of 2^32 or more.
 pub fn check_types(alloc: Global, program: Program) -> Result<Typed, TypeFault>
     ensures same { IfOk result (λ typed. typed ≡ program) }
     ensures clean { OnOk result (all_faults program ≡ []) }
     ensures refused { IfErr result (IsTypeFault program) }
+    ensures faults { IfSome (said_earliest result) (λ f. f ≡ earliest (all_faults program)) }
 {
     match first_fault(alloc, &program) {
         Ok(None) => Ok(Typed::of(program)),

@@ -1,36 +1,11 @@
-//! The static rules of names and types.
+//! The static rules of names and types, and the node that a run begins at.
 #![tactic(auto)]
 
-mod calls;
-mod cases;
 mod check;
 mod choice;
-mod definitions;
-mod divisors;
-mod expressions;
-mod fits;
-mod found;
-mod gathered;
-mod graph;
-mod judge;
-mod labels;
-mod lefts;
-mod limits;
-mod merges;
-mod name_set;
-mod names;
 mod nodes;
 mod parts;
-mod pieces;
-mod queues;
-mod reads;
-mod scene;
-mod sets;
-mod tagged;
-mod tags;
-mod types;
-mod typing;
-mod variables;
+mod seconds;
 mod walk;
 
 pub use check::{TypeFault, check_types};

@@ -7,22 +7,16 @@ ghost use Rattle.hept_ast.specs.Parts as part;
 ghost use Rattle.hept_ast.specs.Parts.{block_sets, branch_case, equation_case, state_case};
 ghost use Rattle.hept_ast.specs.Types.{bool, same_types};
 ghost use Rattle.type_futures.specs.Demands.{has_branches, only_of};
-ghost use Rattle.type_futures.specs.Types.{type_in, types_in};
+ghost use Rattle.declared_types.specs.Types.{type_in, types_in};
 ghost use Rattle.type_futures.specs.Walk.{around_judging, faults_at};
 
-use crate::cases::{
-    note_branch_gaps, note_second_states, note_second_tags, note_state_gaps, note_target,
+use block_definitions::{
+    note_block, note_branch_gaps, note_left_side, note_second_states, note_second_tags,
+    note_state_gaps, note_target,
 };
-use crate::definitions::{note_block, note_left_side};
-use crate::fits::is_one;
-use crate::found::{Found, Kind};
-use crate::judge::judge_expr;
-use crate::lefts::fit_names;
-use crate::names::note_second_names;
-use crate::scene::{NodeScene, Scene};
-use crate::tags::{note_lacking, note_tags};
-use crate::types::{Type, Types, has_tags};
-use crate::typing::PlainType;
+use declared_types::{PlainType, Type, Types, fit_names, has_tags, note_lacking, note_tags};
+use earliest_fault::{Found, Kind, note_second_names};
+use expression_types::{NodeScene, Scene, is_one, judge_expr};
 use hept_ast::{Block, Branch, Decl, Equation, Escape, Expr, Memory, Name, Place, State};
 use std::alloc::Global;
 

@@ -1,44 +1,17 @@
 //! The walk over the parts of a node's text, with what is seen at each.
-ghost use Rattle.std.specs.Prelude.{◌≡◌, ◌++◌, ◌∷◌, [], IfOk, OnOk, false, map, true};
+ghost use Rattle.std.specs.Prelude.{◌≡◌, ◌++◌, IfOk, OnOk, false, map, true};
 ghost use Rattle.std.specs.List.{flat_map};
 ghost use Rattle.hept_ast.specs.Limits.{earlier_of, earliest};
 ghost use Rattle.type_futures.specs.Walk.{around_judging, branch_faults, equation_faults, escape_faults, inner_faults, state_faults};
 
-use crate::found::Found;
 use crate::parts::{
     note_automaton, note_own_block, note_plain, note_reset, note_switch, note_transition,
 };
-use crate::scene::NodeScene;
+use earliest_fault::Found;
+use expression_types::NodeScene;
 use hept_ast::{Block, Branch, Decl, Equation, Escape, Memory, State};
+use node_text::declared_inside;
 use std::alloc::Global;
-
-fn push_seen<'a>(seen: &mut Vec<&'a Decl>, decl: &'a Decl) -> Result<(), Memory>
-    ensures { OnOk result (map (λ r. r.now) seen.new.items ≡ map (λ r. r.now) seen.old.items ++ decl.now ∷ []) }
-{
-    match seen.push(decl) {
-        Ok(()) => Ok(()),
-        Err(_) => Err(Memory),
-    }
-}
-
-/// Appends what is declared to what is seen.
-pub(crate) fn push_declared<'a>(seen: &mut Vec<&'a Decl>, decls: &'a [Decl]) -> Result<(), Memory>
-    ensures { OnOk result (map (λ r. r.now) seen.new.items ≡ map (λ r. r.now) seen.old.items ++ decls.now) }
-{
-    for decl in decls {
-        push_seen(seen, decl)?;
-    }
-    Ok(())
-}
-
-fn push_outer<'a>(seen: &mut Vec<&'a Decl>, outer: &[&'a Decl]) -> Result<(), Memory>
-    ensures { OnOk result (map (λ r. r.now) seen.new.items ≡ map (λ r. r.now) seen.old.items ++ map (λ r. r.now) outer.now) }
-{
-    for decl in outer {
-        push_seen(seen, decl)?;
-    }
-    Ok(())
-}
 
 /// What is seen inside a block: what it declares, and then what is seen around it.
 fn seen_inside<'a>(
@@ -48,10 +21,7 @@ fn seen_inside<'a>(
 ) -> Result<Vec<&'a Decl>, Memory>
     ensures { IfOk result (λ seen. map (λ r. r.now) seen.items ≡ block.now.locals ++ map (λ r. r.now) outer.now) }
 {
-    let mut seen = Vec::new(alloc);
-    push_declared(&mut seen, block.locals.as_slice())?;
-    push_outer(&mut seen, outer)?;
-    Ok(seen)
+    declared_inside(alloc, block.locals.as_slice(), outer)
 }
 
 /// Notes what is wrong with the transitions of a state.

@@ -1,7 +1,7 @@
 use Rattle.std.proofs.Common.{refl, sym}
-use Rattle.ept_reader.specs.Reading.{first}
-use Rattle.ept_reader.proofs.Words.{declaration_kinds}
-use Rattle.ept_reader.specs.Reading.{is_empty}
+use Rattle.ept_grammar.specs.Reading.{first}
+use Rattle.ept_grammar.proofs.Words.{declaration_kinds}
+use Rattle.ept_grammar.specs.Reading.{is_empty}
 use Rattle.ept_reader.proofs.declarations.begins_declaration.Goals as goal
 
 pub returns-in-Lower : goal.returns-in-Lower

@@ -1,7 +1,7 @@
 use Rattle.std.proofs.Common.{refl}
-use Rattle.ept_reader.specs.Grammar.{here, there}
-use Rattle.ept_reader.proofs.Steps.{at_exit, begun_word, begun_empty, fails_part, fails_word, past_part, past_word}
-use Rattle.ept_reader.proofs.Words.{block_locals_first}
+use Rattle.ept_grammar.specs.Grammar.{here, there}
+use Rattle.ept_grammar.proofs.Steps.{at_exit, begun_word, begun_empty, fails_part, fails_word, past_part, past_word}
+use Rattle.ept_grammar.proofs.Words.{block_locals_first}
 use Rattle.ept_reader.proofs.declarations.block_locals.Goals as goal
 
 pub returns-in-None-clause-reads : goal.returns-in-None-clause-reads

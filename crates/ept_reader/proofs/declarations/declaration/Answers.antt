@@ -1,7 +1,7 @@
 use Rattle.std.proofs.Common.{refl}
-use Rattle.ept_reader.specs.Grammar.{here, there}
-use Rattle.ept_reader.proofs.Steps.{at_exit, begun_word, begun_first, fails_part, fails_word, past, past_part, past_word}
-use Rattle.ept_reader.proofs.Words.{declaration_front}
+use Rattle.ept_grammar.specs.Grammar.{here, there}
+use Rattle.ept_grammar.proofs.Steps.{at_exit, begun_word, begun_first, fails_part, fails_word, past, past_part, past_word}
+use Rattle.ept_grammar.proofs.Words.{declaration_front}
 use Rattle.ept_reader.proofs.declarations.declaration.Goals as goal
 
 pub returns-in_err-names-clause-reads : goal.returns-in_err-names-clause-reads

@@ -1,5 +1,5 @@
 use Rattle.std.proofs.Common.{◌≡◌, take}
-use Rattle.ept_reader.specs.Grammar.{declared}
+use Rattle.ept_grammar.specs.Grammar.{declared}
 use Rattle.ept_reader.proofs.declarations.declare.Given as goal
 
 abbrev pub invariant-names : goal.invariant-names

@@ -1,8 +1,8 @@
 use Rattle.std.proofs.Common.{refl, sym, ap, append-nil, arith, length, ◌∙◌}
-use Rattle.ept_reader.specs.Grammar.{here, there}
-use Rattle.ept_reader.proofs.Steps.{nest, same_gives, at_exit, begun_word, begun_sole, begun_empty, fails_part, past_part, past_word}
-use Rattle.ept_reader.proofs.Words.{more_decls_first, last_decls_begun, last_decls_first}
-use Rattle.ept_reader.proofs.Lists.{some_more}
+use Rattle.ept_grammar.specs.Grammar.{here, there}
+use Rattle.ept_grammar.proofs.Steps.{nest, same_gives, at_exit, begun_word, begun_sole, begun_empty, fails_part, past_part, past_word}
+use Rattle.ept_grammar.proofs.Words.{more_decls_first, last_decls_begun, last_decls_first}
+use Rattle.ept_steps.proofs.Lists.{some_more}
 use Rattle.ept_reader.proofs.declarations.decls.Goals as goal
 
 pub returns-in_err-all-clause-reads : goal.returns-in_err-all-clause-reads

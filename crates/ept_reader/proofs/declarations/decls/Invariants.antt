@@ -1,6 +1,6 @@
 use Rattle.std.proofs.Common.{◌<◌, length, [], ◌∷◌, ◌++◌}
-use Rattle.ept_reader.specs.Grammar.{Decls, More_decls, part}
-use Rattle.ept_reader.specs.Reading.{To}
+use Rattle.ept_grammar.specs.Grammar.{Decls, More_decls, part}
+use Rattle.ept_grammar.specs.Reading.{To}
 use Rattle.ept_reader.proofs.declarations.decls.Given as goal
 
 abbrev pub invariant-decls : goal.invariant-decls

@@ -1,5 +1,5 @@
 use Rattle.std.proofs.Common.{refl}
-use Rattle.ept_reader.proofs.Steps.{at_exit, begun_sole, fails_part, past_part}
+use Rattle.ept_grammar.proofs.Steps.{at_exit, begun_sole, fails_part, past_part}
 use Rattle.ept_reader.proofs.declarations.input.Goals as goal
 
 pub returns-in_err-names-clause-reads : goal.returns-in_err-names-clause-reads

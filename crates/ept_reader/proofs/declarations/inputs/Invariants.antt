@@ -1,6 +1,6 @@
 use Rattle.std.proofs.Common.{◌≤◌, length, [], ◌∷◌, ◌++◌}
-use Rattle.ept_reader.specs.Grammar.{Inputs, part}
-use Rattle.ept_reader.specs.Reading.{To}
+use Rattle.ept_grammar.specs.Grammar.{Inputs, part}
+use Rattle.ept_grammar.specs.Reading.{To}
 use Rattle.ept_reader.proofs.declarations.inputs.Given as goal
 
 abbrev pub invariant-inputs : goal.invariant-inputs

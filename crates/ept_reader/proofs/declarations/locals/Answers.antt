@@ -1,7 +1,7 @@
 use Rattle.std.proofs.Common.{refl}
-use Rattle.ept_reader.specs.Grammar.{here, there}
-use Rattle.ept_reader.proofs.Steps.{passed_on, begun_word, begun_empty, fails_part, past_part, past_word}
-use Rattle.ept_reader.proofs.Words.{locals_first}
+use Rattle.ept_grammar.specs.Grammar.{here, there}
+use Rattle.ept_grammar.proofs.Steps.{passed_on, begun_word, begun_empty, fails_part, past_part, past_word}
+use Rattle.ept_grammar.proofs.Words.{locals_first}
 use Rattle.ept_reader.proofs.declarations.locals.Goals as goal
 
 pub returns-in-None-clause-reads : goal.returns-in-None-clause-reads

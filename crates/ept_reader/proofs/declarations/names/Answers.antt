@@ -1,8 +1,8 @@
 use Rattle.std.proofs.Common.{refl, sym, ap, append-nil, arith, length, ◌∙◌, ◌++◌, ◌∷◌}
-use Rattle.ept_reader.specs.Grammar.{here, there}
-use Rattle.ept_reader.proofs.Steps.{nest, same_gives, at_exit, begun_word, begun_sole, begun_empty, fails_part, fails_word, past_word}
-use Rattle.ept_reader.proofs.Words.{more_names_first}
-use Rattle.ept_reader.proofs.Lists.{one_more, first_one}
+use Rattle.ept_grammar.specs.Grammar.{here, there}
+use Rattle.ept_grammar.proofs.Steps.{nest, same_gives, at_exit, begun_word, begun_sole, begun_empty, fails_part, fails_word, past_word}
+use Rattle.ept_grammar.proofs.Words.{more_names_first}
+use Rattle.ept_steps.proofs.Lists.{one_more, first_one}
 use Rattle.ept_reader.proofs.declarations.names.Goals as goal
 
 pub returns-in_err-first-clause-reads : goal.returns-in_err-first-clause-reads

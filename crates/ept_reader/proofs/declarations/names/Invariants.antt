@@ -1,6 +1,6 @@
 use Rattle.std.proofs.Common.{◌<◌, length, [], ◌∷◌, ◌++◌}
-use Rattle.ept_reader.specs.Grammar.{Names, More_names, part}
-use Rattle.ept_reader.specs.Reading.{To}
+use Rattle.ept_grammar.specs.Grammar.{Names, More_names, part}
+use Rattle.ept_grammar.specs.Reading.{To}
 use Rattle.ept_reader.proofs.declarations.names.Given as goal
 
 abbrev pub invariant-names : goal.invariant-names

@@ -1,9 +1,9 @@
 use Rattle.std.proofs.Common.{refl, sym, ap, append-nil, arith, length, ◌∙◌, ◌∷◌, []}
 use Rattle.hept_ast.specs.declared.tree.Equation as equation
-use Rattle.ept_reader.specs.Grammar.{here, there}
-use Rattle.ept_reader.proofs.Steps.{placed, nest, same_gives, at_exit, begun_word, begun_first, begun_sole, begun_empty, fails_over, fails_part, fails_word, past, past_part, past_word}
-use Rattle.ept_reader.proofs.Words.{branches_first, states_first, more_eqs_first, eq_front, eqs_begun, eqs_first, branch_begins, state_begins}
-use Rattle.ept_reader.proofs.Lists.{one_more, first_one}
+use Rattle.ept_grammar.specs.Grammar.{here, there}
+use Rattle.ept_grammar.proofs.Steps.{placed, nest, same_gives, at_exit, begun_word, begun_first, begun_sole, begun_empty, fails_over, fails_part, fails_word, past, past_part, past_word}
+use Rattle.ept_grammar.proofs.Words.{branches_first, states_first, more_eqs_first, eq_front, eqs_begun, eqs_first, branch_begins, state_begins}
+use Rattle.ept_steps.proofs.Lists.{one_more, first_one}
 use Rattle.ept_reader.proofs.equations.+eqs.Goals as goal
 
 pub equations-returns-in_err-next-clause-reads : goal.equations-returns-in_err-next-clause-reads

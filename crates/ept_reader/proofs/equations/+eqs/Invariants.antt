@@ -1,6 +1,6 @@
 use Rattle.std.proofs.Common.{◌<◌, ◌≤◌, ◌+◌, ◌*◌, length, [], ◌∷◌, ◌++◌}
-use Rattle.ept_reader.specs.Grammar.{Branches, Branch_list, Eqs, State_list, States, part}
-use Rattle.ept_reader.specs.Reading.{To}
+use Rattle.ept_grammar.specs.Grammar.{Branches, Branch_list, Eqs, State_list, States, part}
+use Rattle.ept_grammar.specs.Reading.{To}
 use Rattle.ept_reader.proofs.equations.+eqs.Given as goal
 
 abbrev pub decreases-equations : goal.decreases-equations

@@ -1,7 +1,7 @@
 use Rattle.std.proofs.Common.{refl, sym}
-use Rattle.ept_reader.specs.Reading.{first}
-use Rattle.ept_reader.proofs.Words.{eq_kinds}
-use Rattle.ept_reader.specs.Reading.{is_empty}
+use Rattle.ept_grammar.specs.Reading.{first}
+use Rattle.ept_grammar.proofs.Words.{eq_kinds}
+use Rattle.ept_grammar.specs.Reading.{is_empty}
 use Rattle.ept_reader.proofs.equations.begins_equation.Goals as goal
 
 pub returns-in-Lower : goal.returns-in-Lower

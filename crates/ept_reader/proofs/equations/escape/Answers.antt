@@ -1,7 +1,7 @@
 use Rattle.std.proofs.Common.{refl, sym, subst}
-use Rattle.ept_reader.specs.Grammar.{Escape_of}
-use Rattle.ept_reader.specs.Reading.{Reads}
-use Rattle.ept_reader.proofs.Steps.{at_exit, begun_sole, fails_part, past_part}
+use Rattle.ept_grammar.specs.Grammar.{Escape_of}
+use Rattle.ept_grammar.specs.Reading.{Reads}
+use Rattle.ept_grammar.proofs.Steps.{at_exit, begun_sole, fails_part, past_part}
 use Rattle.ept_reader.proofs.equations.escape.Goals as goal
 
 pub returns-in_err-condition-clause-reads : goal.returns-in_err-condition-clause-reads

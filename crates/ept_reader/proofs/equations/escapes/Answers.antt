@@ -1,7 +1,7 @@
 use Rattle.std.proofs.Common.{refl}
-use Rattle.ept_reader.specs.Grammar.{here, there}
-use Rattle.ept_reader.proofs.Steps.{passed_on, begun_word, begun_first, fails_part, past, past_part}
-use Rattle.ept_reader.proofs.Words.{escapes_front}
+use Rattle.ept_grammar.specs.Grammar.{here, there}
+use Rattle.ept_grammar.proofs.Steps.{passed_on, begun_word, begun_first, fails_part, past, past_part}
+use Rattle.ept_grammar.proofs.Words.{escapes_front}
 use Rattle.ept_reader.proofs.equations.escapes.Goals as goal
 
 pub returns-in-None-clause-reads : goal.returns-in-None-clause-reads

@@ -1,5 +1,5 @@
 use Rattle.std.proofs.Common.{refl}
-use Rattle.ept_reader.proofs.Steps.{at_exit, begun_sole, fails_part, fails_word, past, past_part, past_word}
+use Rattle.ept_grammar.proofs.Steps.{at_exit, begun_sole, fails_part, fails_word, past, past_part, past_word}
 use Rattle.ept_reader.proofs.equations.several.Goals as goal
 
 pub returns-in_err-names-clause-reads : goal.returns-in_err-names-clause-reads
@@ -20,4 +20,4 @@ returns-in_err-right-clause-reads c =
 
 pub returns-clause-reads : goal.returns-clause-reads
 returns-clause-reads c =
-    rw (c.in_ok-copy_names.ensures, c.as_slice.ensures) (past_part (past (past_word (past_part (begun_sole _ refl) c.in_ok-names.ensures.reads) c.in_ok-closed.ensures) c.in_ok-after.ensures (refl, c.fresh.ensures)) c.in_ok-right.ensures.reads)
+    rw (c.in_ok-token_names.ensures, c.as_slice.ensures) (past_part (past (past_word (past_part (begun_sole _ refl) c.in_ok-names.ensures.reads) c.in_ok-closed.ensures) c.in_ok-after.ensures (refl, c.fresh.ensures)) c.in_ok-right.ensures.reads)

@@ -1,7 +1,7 @@
 use Rattle.std.proofs.Common.{refl}
-use Rattle.ept_reader.specs.Grammar.{here, there}
-use Rattle.ept_reader.proofs.Steps.{at_exit, begun_word, begun_first, fails_word, past_word}
-use Rattle.ept_reader.proofs.Words.{target_front}
+use Rattle.ept_grammar.specs.Grammar.{here, there}
+use Rattle.ept_grammar.proofs.Steps.{at_exit, begun_word, begun_first, fails_word, past_word}
+use Rattle.ept_grammar.proofs.Words.{target_front}
 use Rattle.ept_reader.proofs.equations.target.Goals as goal
 
 pub returns-in_err-token-clause-reads : goal.returns-in_err-token-clause-reads
@@ -10,7 +10,7 @@ returns-in_err-token-clause-reads c =
 
 pub returns-in-Some-clause-reads : goal.returns-in-Some-clause-reads
 returns-in-Some-clause-reads c =
-    rw c.in_ok-copy.ensures (past_word (past_word (begun_word (there here) refl c.in-Some.ensures) c.in-Some.ensures) c.in_ok-token.ensures)
+    rw c.in_ok-copy_name.ensures (past_word (past_word (begun_word (there here) refl c.in-Some.ensures) c.in-Some.ensures) c.in_ok-token.ensures)
 
 pub returns-in_err-rest-clause-reads : goal.returns-in_err-rest-clause-reads
 returns-in_err-rest-clause-reads c =
@@ -22,4 +22,4 @@ returns-in_err-token-2-clause-reads c =
 
 pub returns-clause-reads : goal.returns-clause-reads
 returns-clause-reads c =
-    rw c.in_ok-copy-2.ensures (past_word (past_word (begun_first refl refl (target_front _ c.in_default.ensures)) c.in_ok-rest.ensures) c.in_ok-token-2.ensures)
+    rw c.in_ok-copy_name-2.ensures (past_word (past_word (begun_first refl refl (target_front _ c.in_default.ensures)) c.in_ok-rest.ensures) c.in_ok-token-2.ensures)

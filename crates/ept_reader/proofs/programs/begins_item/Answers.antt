@@ -1,7 +1,7 @@
 use Rattle.std.proofs.Common.{refl, sym}
-use Rattle.ept_reader.specs.Reading.{first}
-use Rattle.ept_reader.proofs.Words.{item_kinds}
-use Rattle.ept_reader.specs.Reading.{is_empty}
+use Rattle.ept_grammar.specs.Reading.{first}
+use Rattle.ept_grammar.proofs.Words.{item_kinds}
+use Rattle.ept_grammar.specs.Reading.{is_empty}
 use Rattle.ept_reader.proofs.programs.begins_item.Goals as goal
 
 pub returns-in-Node : goal.returns-in-Node

@@ -1,6 +1,6 @@
 use Rattle.std.proofs.Common.{◌<◌, length, [], ◌∷◌, ◌++◌}
-use Rattle.ept_reader.specs.Grammar.{Constructor_list, Constructors, part}
-use Rattle.ept_reader.specs.Reading.{To}
+use Rattle.ept_grammar.specs.Grammar.{Constructor_list, Constructors, part}
+use Rattle.ept_grammar.specs.Reading.{To}
 use Rattle.ept_reader.proofs.programs.constructors.Given as goal
 
 abbrev pub invariant-more : goal.invariant-more

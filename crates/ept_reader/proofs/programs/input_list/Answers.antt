@@ -1,5 +1,5 @@
 use Rattle.std.proofs.Common.{refl}
-use Rattle.ept_reader.proofs.Steps.{at_exit, begun_sole, fails_part, fails_word, past_part, past_word}
+use Rattle.ept_grammar.proofs.Steps.{at_exit, begun_sole, fails_part, fails_word, past_part, past_word}
 use Rattle.ept_reader.proofs.programs.input_list.Goals as goal
 
 pub returns-in_err-inside-clause-reads : goal.returns-in_err-inside-clause-reads

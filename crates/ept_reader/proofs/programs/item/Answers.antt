@@ -1,6 +1,6 @@
-use Rattle.ept_reader.specs.Grammar.{here, there}
-use Rattle.ept_reader.proofs.Steps.{at_exit, begun_word, fails_part, past_part}
-use Rattle.ept_reader.proofs.Words.{item_node, type_begins}
+use Rattle.ept_grammar.specs.Grammar.{here, there}
+use Rattle.ept_grammar.proofs.Steps.{at_exit, begun_word, fails_part, past_part}
+use Rattle.ept_grammar.proofs.Words.{item_node, type_begins}
 use Rattle.ept_reader.proofs.programs.item.Goals as goal
 
 pub returns-in_err-dec-clause-reads : goal.returns-in_err-dec-clause-reads

@@ -1,5 +1,5 @@
 use Rattle.std.proofs.Common.{refl}
-use Rattle.ept_reader.proofs.Steps.{placed, at_exit, begun_sole, fails_part, fails_word, past_part, past_word}
+use Rattle.ept_grammar.proofs.Steps.{placed, at_exit, begun_sole, fails_part, fails_word, past_part, past_word}
 use Rattle.ept_reader.proofs.programs.node.Goals as goal
 
 pub returns-in_err-word-clause-reads : goal.returns-in_err-word-clause-reads

@@ -1,7 +1,7 @@
 use Rattle.std.proofs.Common.{refl, sym, ◌∙◌}
-use Rattle.ept_reader.specs.Grammar.{here}
-use Rattle.ept_reader.proofs.Steps.{nest, same_gives, at_exit, begun_empty, fails_part, past_part}
-use Rattle.ept_reader.proofs.Words.{whole_begun, whole_first}
+use Rattle.ept_grammar.specs.Grammar.{here}
+use Rattle.ept_grammar.proofs.Steps.{nest, same_gives, at_exit, begun_empty, fails_part, past_part}
+use Rattle.ept_grammar.proofs.Words.{whole_begun, whole_first}
 use Rattle.ept_reader.proofs.Wholes.{more_program, whole_program}
 use Rattle.ept_reader.proofs.programs.program.Goals as goal
 

@@ -1,6 +1,6 @@
 use Rattle.std.proofs.Common.{length, [], ◌∷◌, ◌++◌}
-use Rattle.ept_reader.specs.Grammar.{Whole, part}
-use Rattle.ept_reader.specs.Reading.{To}
+use Rattle.ept_grammar.specs.Grammar.{Whole, part}
+use Rattle.ept_grammar.specs.Reading.{To}
 use Rattle.ept_reader.proofs.programs.program.Given as goal
 
 abbrev pub invariant-items : goal.invariant-items

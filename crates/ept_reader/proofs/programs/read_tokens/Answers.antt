@@ -1,8 +1,8 @@
-use Rattle.ept_reader.specs.Grammar.{Whole}
-use Rattle.ept_reader.proofs.Steps.{at_exit}
+use Rattle.ept_grammar.specs.Grammar.{Whole}
+use Rattle.ept_grammar.proofs.Steps.{at_exit}
 use Rattle.ept_reader.proofs.Wholes.{nothing_left, something_left}
-use Rattle.ept_reader.proofs.Places.{refused, refused_more, read_whole, only_text}
-use Rattle.ept_reader.proofs.Refusals.{text_refused, one_refusal, exact_err, exact_ok}
+use Rattle.ept_grammar.proofs.Places.{refused, refused_more, read_whole, only_text}
+use Rattle.ept_grammar.proofs.Refusals.{text_refused, one_refusal, exact_err, exact_ok}
 use Rattle.ept_reader.proofs.programs.read_tokens.Goals as goal
 
 pub returns-in_err-whole-clause-only : goal.returns-in_err-whole-clause-only

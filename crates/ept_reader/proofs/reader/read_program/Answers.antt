@@ -1,9 +1,9 @@
 use Rattle.std.proofs.Common.{sym, subst, ◌∙◌, ◌≡◌, ◌⊎◌, None}
 use Rattle.ept_reader.specs.declared.reader.ReadFault.TheVariants as fault
-use Rattle.ept_reader.specs.Grammar.{Whole}
+use Rattle.ept_grammar.specs.Grammar.{Whole}
 use Rattle.ept_reader.specs.Spelling.{IsRefusalOf}
-use Rattle.ept_reader.specs.Text.{IsRefused}
-use Rattle.ept_reader.specs.Tokens.{Cut}
+use Rattle.ept_grammar.specs.Text.{IsRefused}
+use Rattle.ept_tokens.specs.Tokens.{Cut}
 use Rattle.ept_reader.proofs.Wholes.{cut_only, cut_refused, cut_exactly, text_only, tokens_only, tokens_refused, tokens_exactly}
 use Rattle.ept_reader.proofs.reader.read_program.Goals as goal
 

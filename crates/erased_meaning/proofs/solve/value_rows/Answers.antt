@@ -1,6 +1,6 @@
 use Rattle.std.proofs.Common.{ℕ, List, [], ◌∷◌, ◌++◌, ap, arith, ◌∙◌}
 use Rattle.hept_ast.specs.Stages.{IsAcceptedProgram}
-use Rattle.erased_meaning.specs.declared.answers.Answers.{Answers}
+use Rattle.answer_table.specs.declared.answers.Answers.{Answers}
 use Rattle.erased_meaning.proofs.RowsMean.{are_outputs, erased_outputs, outputs_fit}
 use Rattle.erased_meaning.proofs.RowsOf.{rows_step, same_through}
 use Rattle.erased_meaning.proofs.solve.value_rows.Goals as goal
@@ -10,7 +10,7 @@ loop-t-preserved c =
     let s : Answers = record { alloc = c.args.alloc; accepted = c.args.accepted; top = c.args.top.0; rows = c.args.rows; known = c.new.result } in
     record {
       sound = c.in_ok-row.ensures.sound;
-      same = same_through s c.loop-t.answers c.row.new.self c.loop-t.invariant.same c.in_ok-row.ensures.same;
+      same = same_through s c.loop-t.answers c.row.new.answers c.loop-t.invariant.same c.in_ok-row.ensures.same;
       outs = rows_step s c.loop-t.answers c.index-as_slice-top.result c.loop-t.t c.loop-t.outs c.push.new.self c.in_ok-row.row.items c.loop-t.invariant.same (omega arith)
           c.in_ok-row.ensures.values (c.in_ok-push.ensures.pushed ∙ ap (λ (row : List ℕ). c.loop-t.outs ++ row ∷ []) c.as_slice-in-loop-t.ensures.value) c.loop-t.invariant.outs;
     }

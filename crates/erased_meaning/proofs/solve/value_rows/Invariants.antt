@@ -1,8 +1,8 @@
 use Rattle.std.proofs.Common.{take}
 use Rattle.hept_ast.specs.Scopes.{Written}
 use Rattle.hept_ast.specs.Outputs.{OutputsFrom}
-use Rattle.erased_meaning.specs.Things.{setting_of}
-use Rattle.erased_meaning.specs.Tables.{IsSameRun, IsSound}
+use Rattle.answer_table.specs.Things.{setting_of}
+use Rattle.answer_table.specs.Tables.{IsSameRun, IsSound}
 use Rattle.erased_meaning.proofs.solve.value_rows.Given as goal
 
 abbrev pub invariant-loop-t : goal.invariant-loop-t

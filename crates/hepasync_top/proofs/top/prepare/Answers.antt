@@ -1,13 +1,13 @@
 use Rattle.std.proofs.Common.{◌≡◌, ◌⊎◌, Result, [], sym, subst, ◌∙◌}
 use Rattle.std.specs.Prelude.{MatchResult}
 use Rattle.hept_ast.specs.declared.tree.Program.{Program}
-use Rattle.ept_reader.proofs.Exits.{at_err}
+use Rattle.run_checks.proofs.Exits.{at_err}
 use Rattle.run_messages.specs.declared.end.End.{End}
 use Rattle.run_messages.specs.declared.end.End.TheVariants.{Refused}
 use Rattle.run_messages.specs.declared.end.Refusal.{Refusal}
 use Rattle.hepasync_top.specs.declared.machine.Machine.{Machine}
 use Rattle.hepasync_top.specs.Machine.{HasDone}
-use Rattle.hepasync_top.specs.Stops.{IsRefused, IsUnforeseen}
+use Rattle.run_checks.specs.Stops.{IsRefused, IsUnforeseen}
 use Rattle.hepasync_top.proofs.Refusing.{refused_file, unread_file, same_file, served_file, unforeseen}
 use Rattle.hepasync_top.proofs.top.prepare.Goals as goal
 

@@ -5,8 +5,7 @@ use Rattle.hept_ast.specs.declared.tree.Node.{Node}
 use Rattle.hept_ast.specs.declared.tree.TypeDec.{TypeDec}
 use Rattle.std.proofs.Common.{List}
 use Rattle.type_futures.specs.Labels.{second_declarations}
-use Rattle.type_futures.proofs.Demands.{also_noted}
-use Rattle.type_futures.proofs.NodeParts.{renamed}
+use Rattle.earliest_fault.proofs.Noting.{also_noted, renamed}
 use Rattle.type_futures.proofs.check.note_faults.Goals as goal
 
 pub returns : goal.returns

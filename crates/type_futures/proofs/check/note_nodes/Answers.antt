@@ -1,6 +1,6 @@
 use Rattle.hept_ast.specs.Faults.{node_faults}
-use Rattle.type_futures.proofs.Graphs.{among}
-use Rattle.type_futures.proofs.Noting.{noted_step}
+use Rattle.call_graph.proofs.Graphs.{among}
+use Rattle.earliest_fault.proofs.Noting.{noted_step}
 use Rattle.type_futures.proofs.check.note_nodes.Goals as goal
 
 pub loop-node-preserved : goal.loop-node-preserved

@@ -1,6 +1,6 @@
 use Rattle.std.proofs.Common.{map}
 use Rattle.type_futures.specs.Walk.{around_judging, equation_faults}
-use Rattle.type_futures.proofs.Noting.{noted_step}
+use Rattle.earliest_fault.proofs.Noting.{noted_step}
 use Rattle.type_futures.proofs.nodes.note_equations.Goals as goal
 
 pub loop-equation-preserved : goal.loop-equation-preserved

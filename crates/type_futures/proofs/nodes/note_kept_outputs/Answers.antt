@@ -1,5 +1,5 @@
 use Rattle.type_futures.specs.NodeFaults.{kept_output}
-use Rattle.type_futures.proofs.Noting.{noted_step}
+use Rattle.earliest_fault.proofs.Noting.{noted_step}
 use Rattle.type_futures.proofs.nodes.note_kept_outputs.Goals as goal
 
 pub loop-output-preserved : goal.loop-output-preserved

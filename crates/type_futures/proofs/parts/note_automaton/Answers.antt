@@ -3,7 +3,7 @@ use Rattle.hept_ast.specs.Faults.{gap_faults, labels, seconds}
 use Rattle.hept_ast.specs.Parts.{state_case}
 use Rattle.hept_ast.specs.Texts.{same}
 use Rattle.type_futures.specs.Walk.{around_judging, faults_at, judging_at}
-use Rattle.type_futures.proofs.Demands.{also_noted}
+use Rattle.earliest_fault.proofs.Noting.{also_noted}
 use Rattle.type_futures.proofs.parts.note_automaton.Goals as goal
 
 pub returns : goal.returns

@@ -5,12 +5,12 @@ use Rattle.hept_ast.specs.Faults.{demanded, fits_left, judge_expr, left_faults, 
 use Rattle.hept_ast.specs.Limits.{earlier_of, earliest}
 use Rattle.hept_ast.specs.Texts.{same}
 use Rattle.hept_ast.specs.declared.tree.Decl.{Decl}
-use Rattle.type_futures.specs.Defined.{left_faults_by}
-use Rattle.type_futures.specs.Labels.{names_at}
+use Rattle.block_definitions.specs.Defined.{left_faults_by}
+use Rattle.earliest_fault.specs.Labels.{names_at}
 use Rattle.type_futures.specs.Walk.{around_judging, faults_at, judging_at}
-use Rattle.type_futures.specs.Types.{types_in}
+use Rattle.declared_types.specs.Types.{types_in}
 use Rattle.type_futures.proofs.Demands.{demand_noted, fits_left-is}
-use Rattle.type_futures.proofs.Noting.{noted_both}
+use Rattle.earliest_fault.proofs.Noting.{noted_both}
 use Rattle.type_futures.proofs.parts.note_plain.Goals as goal
 
 pub returns : goal.returns

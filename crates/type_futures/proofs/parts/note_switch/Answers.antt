@@ -5,11 +5,11 @@ use Rattle.hept_ast.specs.Faults.{can_branch, demanded, gap_faults, judge_expr, 
 use Rattle.hept_ast.specs.Parts.{branch_case}
 use Rattle.hept_ast.specs.Types.{same_tag}
 use Rattle.type_futures.specs.Walk.{around_judging, faults_at, judging_at}
-use Rattle.type_futures.specs.Tags.{branch_tag_faults, lack_fault}
-use Rattle.type_futures.specs.Types.{types_in}
-use Rattle.type_futures.proofs.CaseLists.{branch_labels}
-use Rattle.type_futures.proofs.Demands.{also_noted, can_branch-is, demand_noted, lack_is, only_of-is, tags_are}
-use Rattle.type_futures.proofs.Noting.{noted_then}
+use Rattle.declared_types.specs.Tags.{branch_tag_faults, lack_fault}
+use Rattle.declared_types.specs.Types.{types_in}
+use Rattle.block_definitions.proofs.CaseLists.{branch_labels}
+use Rattle.type_futures.proofs.Demands.{can_branch-is, demand_noted, lack_is, only_of-is, tags_are}
+use Rattle.earliest_fault.proofs.Noting.{also_noted, noted_then}
 use Rattle.type_futures.proofs.parts.note_switch.Goals as goal
 
 pub returns : goal.returns

@@ -3,7 +3,7 @@ use Rattle.std.proofs.Common.{ap, true, ◌∙◌, map}
 use Rattle.std.specs.Option.{option_map_or}
 use Rattle.type_futures.specs.Walk.{around_judging, faults_at, judging_at}
 use Rattle.type_futures.proofs.Demands.{demand_noted}
-use Rattle.type_futures.proofs.Noting.{noted_both}
+use Rattle.earliest_fault.proofs.Noting.{noted_both}
 use Rattle.type_futures.proofs.parts.note_transition.Goals as goal
 
 pub returns : goal.returns

@@ -4,7 +4,7 @@ use Rattle.hept_ast.specs.Parts as part
 use Rattle.hept_ast.specs.Parts.{equation_case}
 use Rattle.hept_ast.specs.declared.tree.Decl.{Decl}
 use Rattle.type_futures.specs.Walk.{around_judging, branch_faults, equation_faults, faults_at, state_faults}
-use Rattle.type_futures.proofs.Noting.{noted_step, noted_whole}
+use Rattle.earliest_fault.proofs.Noting.{noted_step, noted_whole}
 use Rattle.type_futures.proofs.Walks.{inner_noted}
 use Rattle.type_futures.proofs.walk.+walk.Goals as goal
 

@@ -3,7 +3,7 @@ use Rattle.hept_ast.specs.InnerParts.{state_names}
 use Rattle.hept_ast.specs.Limits.{earlier_of, earliest}
 use Rattle.hept_ast.specs.Parts.{Transition}
 use Rattle.type_futures.specs.Walk.{around_judging, faults_at}
-use Rattle.type_futures.proofs.Noting.{noted_step, noted_whole}
+use Rattle.earliest_fault.proofs.Noting.{noted_step, noted_whole}
 use Rattle.type_futures.proofs.Walks.{escape_faults-is}
 use Rattle.type_futures.proofs.walk.note_escapes.Goals as goal
 

@@ -3,11 +3,10 @@ use Rattle.std.specs.List.{list_all}
 use Rattle.hept_ast.specs.declared.tree.TypeDec.{TypeDec}
 use Rattle.hept_ast.specs.declared.tree.Node.{Node}
 use Rattle.step_objects.specs.Shapes.{is_declared_plain, shape_of}
-use Rattle.hepasync_top.specs.Stepping.{IsSteppable}
-use Rattle.hepasync_top.proofs.Among.{list_all_back, list_all_front}
-use Rattle.hepasync_top.proofs.NextOutputs.{served_inputs, served_outputs}
-use Rattle.hepasync_top.proofs.RowShapes.{few_in_program, shape_length}
-use Rattle.hepasync_top.proofs.Steppable.{steppable}
+use Rattle.plain_stepper.specs.Stepping.{IsSteppable}
+use Rattle.plain_stepper.proofs.Among.{list_all_back, list_all_front}
+use Rattle.plain_stepper.proofs.RowShapes.{few_in_program, shape_length, served_inputs, served_outputs}
+use Rattle.plain_stepper.proofs.Steppable.{steppable}
 use Rattle.hepasync_top.proofs.machine.Machine.new.Goals as goal
 
 pub of-requires-clause-plain : goal.of-requires-clause-plain
@@ -72,6 +71,7 @@ returns-in-Ok-Ok-Ok-clause-done c =
     let inputs_are : c.in_ok-inputs.inputs ≡ shape_of types node.inputs = c.in_ok-inputs.ensures ∙ ap (shape_of types) (c.as_slice-2.ensures ∙ ap (λ (n : Node). n.inputs) node_is) in
     let outputs_are : c.in_ok-outputs.outputs ≡ shape_of types node.outputs = c.in_ok-outputs.ensures ∙ ap (shape_of types) (c.as_slice-3.ensures ∙ ap (λ (n : Node). n.outputs) node_is) in
     record {
+      runs = c.requires;
       stands = stands;
       outputs = c.in_ok-stepper.ensures.rows;
       input_shape = inputs_are ∙ sym (served_inputs c.args.program.now stands.served);

@@ -3,10 +3,10 @@ use Rattle.step_objects.specs.declared.shape.Values.{Values}
 use Rattle.step_cells.specs.declared.cell.Cell.{Cell}
 use Rattle.step_objects.specs.Shapes.{FitsShape}
 use Rattle.step_cells.specs.Cells.{row_of}
-use Rattle.hepasync_top.specs.Outputs.{input_shape}
-use Rattle.hepasync_top.specs.Stepping.{GivesRows, Stands}
+use Rattle.step_objects.specs.Interfaces.{input_shape}
+use Rattle.plain_stepper.specs.Stepping.{GivesRows, Stands}
 use Rattle.hepasync_top.proofs.NextOutputs.{written_back}
-use Rattle.hepasync_top.proofs.RowShapes.{fitting_row}
+use Rattle.plain_stepper.proofs.RowShapes.{fitting_row}
 use Rattle.hepasync_top.proofs.machine.Machine.step.Goals as goal
 
 pub instant-requires-clause-stands : goal.instant-requires-clause-stands
@@ -50,6 +50,7 @@ returns-clause-done c = λ p rows outs h.
     let written = written_back c.args.self.now.values.items out c.args.self.now.values.len (sym (c.instant.auto.out ∙ c.as_mut_slice.ensures.len)) in
     let fits = fitting_row c.args.self.now.inputs (input_shape p) row c.as_slice.result.now h.input_shape read c.requires.row in
     record {
+      runs = h.runs;
       stands = subst (λ (r : List Cell). Stands p (rows ++ row_of r ∷ []) c.instant.new.self) read (c.instant.ensures.steps p rows h.stands fits).1;
       outputs = subst (λ (o : List Cell). GivesRows p (rows ++ row_of row ∷ []) (outs ++ row_of o ∷ [])) (sym written)
           (subst (λ (r : List Cell). GivesRows p (rows ++ row_of r ∷ []) (outs ++ row_of out ∷ [])) read (c.instant.ensures.rows p rows outs h.stands fits h.outputs));

@@ -5,7 +5,7 @@ use Rattle.hepasync_top.proofs.machine.Machine.turns.Goals as goal
 pub returns-in-Err-clause-ends : goal.returns-in-Err-clause-ends
 returns-in-Err-clause-ends g c = λ p h.
     let s = c.loop-counted.invariant.1 p h in
-    stops c.meaning_laws.ensures.erased p c.args.limit c.loop-counted.counted _ _ c.loop-counted.self c.turn.new.self _ _ _ _ c.in-Err.end c.loop-counted-test.true s (c.in-Err.ensures.turns p s.rows s.outs s.done)
+    stops c.meaning_laws.ensures.erased c.served_clock_law.ensures p c.args.limit c.loop-counted.counted _ _ c.loop-counted.self c.turn.new.self _ _ _ _ c.in-Err.end c.loop-counted-test.true s (c.in-Err.ensures.turns p s.rows s.outs s.done)
 
 pub loop-counted-preserved : goal.loop-counted-preserved
 loop-counted-preserved g c = (
@@ -19,4 +19,4 @@ loop-counted-preserved g c = (
 pub returns-clause-ends : goal.returns-clause-ends
 returns-clause-ends g c = λ p h.
     let s = c.loop-counted.invariant.1 p h in
-    at_limit c.meaning_laws.ensures.erased p c.args.limit c.loop-counted.counted _ _ c.loop-counted.self _ _ _ c.end_of_trace.result s (omega arith) c.end_of_trace.ensures.ends
+    at_limit c.meaning_laws.ensures.erased c.served_clock_law.ensures p c.args.limit c.loop-counted.counted _ _ c.loop-counted.self _ _ _ c.end_of_trace.result s (omega arith) c.end_of_trace.ensures.ends

@@ -5,6 +5,7 @@ use Rattle.hept_io.specs.Unread.{Came, unread}
 use Rattle.hept_io.specs.declared.lines.LineFault.{LineFault}
 use Rattle.hept_io.specs.declared.lines.LineFault.TheVariants.{Failed, TooLong}
 use Rattle.hept_io.proofs.LineLaws.{LosesLine-taken, GivesUp-came, FirstIsTooLong-came}
+use Rattle.hept_io.proofs.LineLemmas.{few_unread}
 use Rattle.hept_io.proofs.lines.LineReader.next.Goals as goal
 
 -- what a refusal does
@@ -25,7 +26,7 @@ returns-in-Some g c =
     let shown = c.part.ensures in
     let line = rw (← shown) at clauses.line in
     let takes = rw was at line.1 in (
-      (refl, λ _. tt, record { goes_on = refl; loses = LosesLine-taken _ _ _ _ _ line.0.0 takes }),
+      (refl, λ _. tt, record { goes_on = refl; few = few_unread c.next_line.new.self; loses = LosesLine-taken _ _ _ _ _ line.0.0 takes }),
       record { line = line.0; failed = tt; count = c.next_line.ensures.count; moves = tt },
     )
 

@@ -1,0 +1,5 @@
+pub mod Parts
+pub mod Things
+pub mod Asking
+pub mod Tables
+pub mod HomePaths

@@ -1,0 +1,4 @@
+pub mod Typing
+pub mod Types
+pub mod Tags
+pub mod Lefts

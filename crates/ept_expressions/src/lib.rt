@@ -1,0 +1,6 @@
+//! Reads expressions.
+#![tactic(auto)]
+
+mod expressions;
+
+pub use expressions::expression;

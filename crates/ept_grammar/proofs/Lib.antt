@@ -1,0 +1,9 @@
+pub mod Among
+pub mod EachKind
+pub mod Table
+pub mod Theory
+pub mod Samples
+pub mod Places
+pub mod Refusals
+pub mod Steps
+pub mod Words

@@ -1,0 +1,2 @@
+pub use Rattle.ept_grammar.specs.Grammar
+pub use Rattle.ept_grammar.specs.Reading

@@ -1,0 +1,9 @@
+pub mod Bools
+pub mod Comments
+pub mod Decimals
+pub mod Longest
+pub mod Fronts
+pub mod Exits
+pub mod OneCut
+pub mod Cuts
+pub mod TokenExamples

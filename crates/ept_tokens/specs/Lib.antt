@@ -1,0 +1,3 @@
+pub mod Kinds
+pub mod Tokens
+pub mod Cutting

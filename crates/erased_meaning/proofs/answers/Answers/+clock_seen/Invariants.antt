@@ -1,5 +1,0 @@
-use Rattle.std.proofs.Common.{length}
-use Rattle.erased_meaning.proofs.answers.Answers.+clock_seen.Given as goal
-
-abbrev pub decreases-clock_seen : goal.decreases-clock_seen
-decreases-clock_seen l = length l.scope.now

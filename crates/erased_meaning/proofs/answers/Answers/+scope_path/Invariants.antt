@@ -1,5 +1,0 @@
-use Rattle.std.proofs.Common.{length}
-use Rattle.erased_meaning.proofs.answers.Answers.+scope_path.Given as goal
-
-abbrev pub decreases-scope_path : goal.decreases-scope_path
-decreases-scope_path l = length l.path.now

@@ -1,6 +1,0 @@
-use Rattle.erased_meaning.proofs.HoldingSteps.{HoldsFrom}
-use Rattle.erased_meaning.proofs.answers.Answers.steps_hold.Given as goal
-
--- what the steps that are left come to, all of them come to
-abbrev pub invariant-loop-step : goal.invariant-loop-step
-invariant-loop-step l = HoldsFrom l.self l.scope l.clock l.t l.step-index

@@ -1,0 +1,61 @@
+use crate::expected::{DELAYED_SUM, writes};
+use std::test::Fail;
+
+#[test]
+fn delayed_sum(rt: HostRuntime) -> Result<(), Fail> {
+    writes(&rt, rt.alloc(), DELAYED_SUM, b"1\n2\n3\n", b"0\n1\n3\n")
+}
+
+#[test]
+fn empty_trace(rt: HostRuntime) -> Result<(), Fail> {
+    writes(&rt, rt.alloc(), DELAYED_SUM, b"", b"")
+}
+
+#[test]
+fn sum_wraps(rt: HostRuntime) -> Result<(), Fail> {
+    let text = b"node main(x:int) returns (y:int) let y = x + 1 tel";
+    writes(&rt, rt.alloc(), text, b"2147483647\n", b"-2147483648\n")
+}
+
+#[test]
+fn division(rt: HostRuntime) -> Result<(), Fail> {
+    let text = b"node main(x:int) returns (q,r,n:int) let q = x / 2; r = x mod 2; n = x / -1 tel";
+    let output = b"-3 -1 7\n-1073741824 0 -2147483648\n";
+    writes(&rt, rt.alloc(), text, b"-7\n-2147483648\n", output)
+}
+
+#[test]
+fn constructors(rt: HostRuntime) -> Result<(), Fail> {
+    let text =
+        b"type mode = Coarse | Fine\nnode main(m:mode) returns (k:mode; b:bool) let k = if m = Coarse then Fine else Coarse; b = m = Fine tel";
+    let output = b"Fine false\nCoarse true\n";
+    writes(&rt, rt.alloc(), text, b"Coarse\nFine\n", output)
+}
+
+// Truth values, constructors and a local variable are kept from one instant to the next.
+#[test]
+fn kept_values(rt: HostRuntime) -> Result<(), Fail> {
+    let text =
+        b"type t = A | B | C node main(x:int) returns (y:t; e:bool) var n:int; let n = 0 fby (n * 3 - x); y = C fby (if n < 0 then B else y); e = (true fby (y <> C)) or n > 4 & not (x = 1) tel";
+    let output = b"C true\nC false\nB false\nB true\n";
+    writes(&rt, rt.alloc(), text, b"2\n-9\n1\n0\n", output)
+}
+
+// A `fby` in the right operand of a `fby` is a memory of its own.
+#[test]
+fn nested_fby(rt: HostRuntime) -> Result<(), Fail> {
+    let text = b"node main(x:int) returns (y:int) let y = 1 fby (2 fby (x - y)) tel";
+    let trace = b"10\n20\n30\n40\n50\n";
+    writes(&rt, rt.alloc(), text, trace, b"1\n2\n9\n18\n21\n")
+}
+
+#[test]
+fn carriage_return(rt: HostRuntime) -> Result<(), Fail> {
+    writes(&rt, rt.alloc(), DELAYED_SUM, b"1\n2\r\n3", b"0\n1\n3\n")
+}
+
+#[test]
+fn no_inputs(rt: HostRuntime) -> Result<(), Fail> {
+    let text = b"node main() returns (y:int) let y = 0 fby (y + 1) tel";
+    writes(&rt, rt.alloc(), text, b"\n\n\n", b"0\n1\n2\n")
+}

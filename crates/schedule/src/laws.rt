@@ -1,7 +1,0 @@
-ghost use Rattle.schedule.specs.Example.{TurnedCanBeOrdered};
-
-/// A core whose second equation defines what the first one reads is one that `order` takes, and is not
-/// in order yet.
-pub fn order_laws()
-    ensures { TurnedCanBeOrdered }
-{}

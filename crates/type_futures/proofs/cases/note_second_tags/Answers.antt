@@ -1,8 +1,0 @@
-use Rattle.hept_ast.specs.Types.{same_tag}
-use Rattle.type_futures.specs.Defined.{tag_label}
-use Rattle.type_futures.proofs.Seconds.{seconds_step}
-use Rattle.type_futures.proofs.cases.note_second_tags.Goals as goal
-
-pub loop-index-preserved : goal.loop-index-preserved
-loop-index-preserved c =
-    seconds_step same_tag tag_label _ _ c.index-branches-index.result c.index-branches-index.result c.is_tag_of-again.result _ _ _ c.loop-index-test.true c.loop-index.invariant c.index-branches-index.is c.is_tag_of-again.ensures c.note_if.ensures

@@ -1,9 +1,0 @@
-use Rattle.std.proofs.Common.{◌≡◌, [], map, take}
-use Rattle.hept_ast.specs.Faults.{seconds}
-use Rattle.hept_ast.specs.Limits.{earlier_of, earliest}
-use Rattle.hept_ast.specs.Types.{same_tag}
-use Rattle.type_futures.specs.Defined.{tag_label}
-use Rattle.type_futures.proofs.cases.note_second_tags.Given as goal
-
-abbrev pub invariant-loop-index : goal.invariant-loop-index
-invariant-loop-index l = l.found ≡ earlier_of l.initial.found (earliest (seconds same_tag [] (map tag_label (take l.index l.branches))))

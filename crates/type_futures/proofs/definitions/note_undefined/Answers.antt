@@ -1,7 +1,0 @@
-use Rattle.std.proofs.Common.{map}
-use Rattle.type_futures.specs.Defined.{undefined_fault}
-use Rattle.type_futures.proofs.Noting.{noted_step}
-use Rattle.type_futures.proofs.definitions.note_undefined.Goals as goal
-
-pub loop-decl-preserved : goal.loop-decl-preserved
-loop-decl-preserved c = noted_step (undefined_fault (map (λ r. r.now) c.args.sets.now.keys)) _ _ c.decl-item.result c.decl-item.result _ _ _ c.loop-decl-test.true c.loop-decl.invariant c.decl-item.is c.note_if_undefined.ensures

@@ -1,7 +1,0 @@
-use Rattle.std.proofs.Common.{◌≡◌, map, take}
-use Rattle.hept_ast.specs.Texts.{same}
-use Rattle.type_futures.specs.Graph.{row_in}
-use Rattle.type_futures.proofs.graph.first_marks.Given as goal
-
-abbrev pub invariant-loop-row : goal.invariant-loop-row
-invariant-loop-row l = l.marks.items ≡ map (λ r. same r.0 l.to) (map row_in (take l.row-index l.rows))

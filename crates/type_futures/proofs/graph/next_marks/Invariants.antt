@@ -1,6 +1,0 @@
-use Rattle.std.proofs.Common.{◌≡◌, map, take}
-use Rattle.type_futures.specs.Graph.{next_marks, row_in}
-use Rattle.type_futures.proofs.graph.next_marks.Given as goal
-
-abbrev pub invariant-loop-row : goal.invariant-loop-row
-invariant-loop-row l = l.next.items ≡ next_marks (map row_in (take l.row-index l.rows)) l.to l.marks

@@ -1,6 +1,0 @@
-use Rattle.std.proofs.Common.{◌≡◌, map, take}
-use Rattle.type_futures.specs.Graph.{edge_of, row_in}
-use Rattle.type_futures.proofs.graph.rows_of.Given as goal
-
-abbrev pub invariant-loop-node : goal.invariant-loop-node
-invariant-loop-node l = map row_in l.rows.items ≡ map (edge_of l.nodes) (take l.node-index l.nodes)

@@ -1,6 +1,0 @@
-use Rattle.std.proofs.Common.{◌≡◌, ◌++◌, map, take}
-use Rattle.type_futures.specs.Labels.{label_of, names_at}
-use Rattle.type_futures.proofs.labels.push_names.Given as goal
-
-abbrev pub invariant-loop-name : goal.invariant-loop-name
-invariant-loop-name l = map label_of l.labels.items ≡ map label_of l.initial.labels.items ++ names_at l.place.0 (take l.name-index l.names)

@@ -1,7 +1,0 @@
-use Rattle.std.proofs.Common.{◌≡◌, drop, map}
-use Rattle.hept_ast.specs.Types.{future_of, types_of}
-use Rattle.type_futures.specs.Lefts.{have_types}
-use Rattle.type_futures.proofs.lefts.have_futures.Given as goal
-
-abbrev pub invariant-loop-index : goal.invariant-loop-index
-invariant-loop-index l = have_types (map (λ r. r.now) l.seen) l.names (map future_of (types_of l.decls)) ≡ have_types (map (λ r. r.now) l.seen) (drop l.index l.names) (map future_of (types_of (drop l.index l.decls)))

@@ -1,6 +1,0 @@
-use Rattle.type_futures.proofs.NameSets.{more_met}
-use Rattle.type_futures.proofs.name_set.insert_names.Goals as goal
-
-pub loop-name-preserved : goal.loop-name-preserved
-loop-name-preserved c = λ x.
-    more_met (λ r. r.now) c.args.more.now c.loop-name.name-index c.name-item.result c.name-item.result x _ _ _ c.loop-name-test.true c.name-item.is (c.loop-name.invariant x) (c.in_ok-insert_name.ensures.names x)

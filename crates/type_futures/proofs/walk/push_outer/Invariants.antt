@@ -1,5 +1,0 @@
-use Rattle.std.proofs.Common.{◌≡◌, ◌++◌, map, take}
-use Rattle.type_futures.proofs.walk.push_outer.Given as goal
-
-abbrev pub invariant-loop-decl : goal.invariant-loop-decl
-invariant-loop-decl l = map (λ r. r.now) l.seen.items ≡ map (λ r. r.now) l.initial.seen.items ++ map (λ r. r.now) (take l.decl-index l.outer)
