@@ -31,7 +31,7 @@ use Rattle.sound_expressions.proofs.Forms.{unmet_list, unmet_values, unmet_Fby, 
 use Rattle.sound_expressions.proofs.Lists.{nil_left, nil_right, or_left, or_right}
 use Rattle.erased_rules.proofs.Standing.{read, sampled, Stands, Row_stands, Branches_stand}
 use Rattle.core_facts.specs.Undefined.{AreWithin, Grades, is_some_list, lists_of, may}
-use Rattle.core_facts.specs.Static.{AreProper, GivesNoFuture, HasBranch, IsArrowWithin, StaticExpr}
+use Rattle.core_facts.specs.Static.{AreProper, GivesNoFuture, HasBranch, IsArrowWithin}
 use Rattle.core_facts.proofs.Undefined.{lists_is, lists_view, none_of, none_var}
 use Rattle.core_naming.specs.Names.{Names, variable_at}
 use Rattle.core_naming.specs.Ties.{form_names}

@@ -1,5 +1,5 @@
 -- The nodes of a core in which a subexpression is named have the static facts.
-use Rattle.std.proofs.Common.{◌≡◌, Bool, true, false, if◌then◌else◌, List, [], ◌∷◌, ◌++◌, map, refl, sym, ap, subst, ◌∙◌, All, Contains, Option, Some, None}
+use Rattle.std.proofs.Common.{◌≡◌, Bool, true, false, if◌then◌else◌, List, [], ◌∷◌, ◌++◌, map, refl, sym, ap, subst, ◌∙◌, All, Contains, Option, Some}
 use Rattle.std.specs.List.{flat_map, list_all}
 use Rattle.std.proofs.lemmas.Bool.{or_parts}
 use Rattle.std.proofs.lemmas.List.Elements.{All-contains, All-weaker}
@@ -16,7 +16,7 @@ use Rattle.hept_ast.specs.declared.tree.Decl.{Decl}
 use Rattle.hept_ast.specs.declared.tree.Expr.{Expr}
 use Rattle.hept_ast.specs.declared.tree.TypeDec.{TypeDec}
 use Rattle.hept_ast.specs.declared.tree.Form.{out-Form}
-use Rattle.core_rules.specs.Cores.{as_interface, core_clock, core_decls, core_judging}
+use Rattle.core_rules.specs.Cores.{as_interface, core_decls, core_judging}
 use Rattle.core_rules.specs.WellFormed.{IsClockedEquation, IsTypedEquation, IsWellFormed, IsWellFormedNode}
 use Rattle.core_rules.proofs.Ends.{same_is, same_self}
 use Rattle.sound_expressions.specs.Demands.{NamesDiffer}

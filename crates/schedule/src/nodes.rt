@@ -2,6 +2,7 @@
 ghost use Rattle.std.specs.Prelude.{All, IfOk};
 ghost use Rattle.core_rules.specs.Cores.{CoreReads, HasNoCoreCycle};
 ghost use Rattle.core_rules.specs.WellFormed.{IsWellFormed};
+ghost use Rattle.core_facts.specs.Static.{StaticCore};
 ghost use Rattle.hept_ast.specs.Causal.{HasNoCycle};
 ghost use Rattle.hept_ast.specs.Reordering.{Reordering};
 ghost use Rattle.schedule.specs.Kept.{KeepsMeaning};
@@ -51,12 +52,14 @@ fn order_nodes(alloc: Global, nodes: Items<CoreNode>) -> Result<Items<CoreNode>,
 
 /// The equations of each node in an order in which each stands after those that it reads: in its right
 /// side at its own instant, in its clock and in its resets. Nothing else changes, so the nodes mean what
-/// they meant. It fails only for want of memory, since no reads have a cycle.
+/// they meant, and keep the static facts. It fails only for want of memory, since no reads have a cycle.
 pub fn order(alloc: Global, core: Core) -> Result<Ordered, Memory>
     requires well_formed { IsWellFormed core }
     requires normal { IsNormal core }
     requires acyclic { HasNoCoreCycle core }
+    requires facts { StaticCore core }
     ensures ordered { IfOk result (λ other. IsOrdered other) }
+    ensures facts { IfOk result (λ other. StaticCore other) }
     ensures moved { IfOk result (λ other. Reordering core other) }
     ensures meaning { IfOk result (λ other. KeepsMeaning core other) }
 {

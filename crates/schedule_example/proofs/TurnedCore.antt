@@ -1,12 +1,14 @@
 -- The example is well formed and in normal form, its reads have no cycle, and it is not in order.
-use Rattle.std.proofs.Common.{◌≡◌, ◌⊎◌, inl, inr, ◌<◌, Bool, true, false, ◌||◌, if◌then◌else◌, [], ◌∷◌, ◌++◌, refl, sym, ap, subst, arith, ◌∙◌, Some}
-use Rattle.std.specs.Prelude.{codes}
+use Rattle.std.proofs.Common.{◌≡◌, ◌⊎◌, inl, inr, ◌<◌, Bool, true, false, ◌||◌, if◌then◌else◌, [], ◌∷◌, ◌++◌, refl, sym, ap, subst, arith, ◌∙◌, Some, List, pos}
+use Rattle.std.specs.Prelude.{All, codes}
 use Rattle.std.proofs.lemmas.Bool.{false≢true}
 use Rattle.std.proofs.lemmas.List.Elements.{All-cons, All-nil, All-from_recursion}
 use Rattle.hept_ast.specs.Texts.{Name, same, is_in, names}
 use Rattle.hept_ast.specs.Parts.{inside}
 use Rattle.hept_ast.specs.Causal.{HasNoCycle}
 use Rattle.hept_ast.specs.Faults.{calls_of, type_of_variable}
+use Rattle.hept_ast.specs.TypedValues.{FitsConst}
+use Rattle.hept_ast.specs.declared.tree.Const.TheVariants.{Number}
 use Rattle.hept_ast.specs.declared.tree.CoreEquation.{CoreEquation}
 use Rattle.hept_ast.specs.declared.tree.CoreNode.{CoreNode}
 use Rattle.hept_ast.specs.declared.tree.Decl.{Decl}
@@ -21,6 +23,8 @@ use Rattle.core_rules.specs.WellFormed.{IsClockedEquation, IsNoLast, IsTypedEqua
 use Rattle.core_rules.proofs.Ends.{same_is, same_self}
 use Rattle.core_rules.proofs.SumCore.{differ}
 use Rattle.core_naming.specs.Normal.{AreNormal, IsNormalRight, is_step, plain}
+use Rattle.core_facts.specs.Undefined.{Among, Grades, lists_of, lists_row}
+use Rattle.core_facts.specs.Static.{GivesNoFuture, StaticCore, StaticEquation, StaticExpr, StaticNode}
 use Rattle.schedule.specs.Order.{IsOrdered, IsOrderedNode}
 use Rattle.schedule_example.specs.Example.{TurnedCanBeOrdered, copy_of, sum_of, turned_core, turned_node}
 
@@ -133,6 +137,54 @@ not_in_order h =
     let less : 1 < 0 = first 0 1 sum_of copy_of refl refl (codes "a", reads_copy, refl) in
     absurd (omega arith)
 
+-- ---- its static facts
+
+-- none of its variables is ever undefined
+never : Grades
+never x = []
+
+defined : {A : Type 0} (l : List Name) → Among l [] → A
+defined l i = elim i [ ]
+
+no_calls : All (GivesNoFuture turned_core) []
+no_calls = All-nil (GivesNoFuture turned_core)
+
+one_fits : FitsConst (Number (pos 1))
+one_fits = omega arith
+
+static_equations : StaticNode turned_core turned_node never
+unfolding static lists_of lists_row out-Form Carrier.out never
+static_equations = record {
+  equations = All-from_recursion (StaticEquation turned_core turned_node never) turned_node.equations (
+    record {
+      left = λ x i l j. defined l j;
+      right = All-from_recursion (StaticExpr turned_core never []) (inside sum_of.right) (
+        record { demands = refl; arrow = tt; number = tt; plain = no_calls; branch = tt },
+        (record { demands = refl; arrow = tt; number = tt; plain = no_calls; branch = tt }, (record { demands = refl; arrow = tt; number = one_fits; plain = no_calls; branch = tt }, tt)),
+      );
+      clock = tt;
+      resets = λ x i. refl;
+    },
+    (
+      record {
+        left = λ x i l j. defined l j;
+        right = All-from_recursion (StaticExpr turned_core never []) (inside copy_of.right) (record { demands = refl; arrow = tt; number = tt; plain = no_calls; branch = tt }, tt);
+        clock = tt;
+        resets = λ x i. refl;
+      },
+      tt,
+    ),
+  );
+  interface = All-from_recursion (λ (d : Decl). never d.name ≡ []) (turned_node.inputs ++ turned_node.outputs) (refl, (refl, tt));
+}
+
+static_core : StaticCore turned_core
+static_core = record {
+  types = tt;
+  constructors = tt;
+  nodes = All-cons (λ (n : CoreNode). (g : Grades) × StaticNode turned_core n g) turned_node [] (never, static_equations) (All-nil (λ (n : CoreNode). (g : Grades) × StaticNode turned_core n g));
+}
+
 pub turned_can_be_ordered : TurnedCanBeOrdered
 turned_can_be_ordered = record {
   well_formed = All-cons (IsWellFormedNode turned_core) turned_node [] node_well_formed (All-nil (IsWellFormedNode turned_core));
@@ -140,5 +192,6 @@ turned_can_be_ordered = record {
       (All-cons (λ (e : CoreEquation). IsNormalRight e.right) sum_of (copy_of ∷ []) sum_normal (All-cons (λ (e : CoreEquation). IsNormalRight e.right) copy_of [] copy_normal (All-nil (λ (e : CoreEquation). IsNormalRight e.right))))
       (All-nil (λ (node : CoreNode). AreNormal node.equations));
   acyclic = All-cons (λ (node : CoreNode). HasNoCycle (CoreReads node)) turned_node [] no_cycle (All-nil (λ (node : CoreNode). HasNoCycle (CoreReads node)));
+  facts = static_core;
   not_ordered = not_in_order;
 }

@@ -11,6 +11,7 @@ use Rattle.hept_ast.specs.declared.tree.Form.TheVariants as form
 use Rattle.core_rules.specs.Cores.{HasNoCoreCycle}
 use Rattle.core_rules.specs.WellFormed.{IsWellFormed, expr, int_decl}
 use Rattle.core_naming.specs.Normal.{IsNormal}
+use Rattle.core_facts.specs.Static.{StaticCore}
 use Rattle.schedule.specs.Order.{IsOrdered}
 
 abbrev pub defined_as : Name → Expr → CoreEquation
@@ -35,4 +36,5 @@ pub record TurnedCanBeOrdered : Type 0 where
   pub well_formed : IsWellFormed turned_core
   pub normal : IsNormal turned_core
   pub acyclic : HasNoCoreCycle turned_core
+  pub facts : StaticCore turned_core
   pub not_ordered : IsOrdered turned_core → ⊥
