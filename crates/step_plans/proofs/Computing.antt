@@ -1,6 +1,6 @@
 -- One lemma for each instruction that computes what an expression gives.
 use Rattle.std.proofs.Common.{◌≡◌, ℕ, true, false, List, Option, Some, None, refl, sym, subst}
-use Rattle.std.specs.Prelude.{if◌then◌else◌, ◌==◌, is_some, slice_index}
+use Rattle.std.specs.Prelude.{if◌then◌else◌, ◌==◌, is_some}
 use Rattle.hept_ast.specs.Values.{truth}
 use Rattle.hept_ast.specs.Texts.{const_value}
 use Rattle.hept_ast.specs.Scopes.{Clock, Scope}

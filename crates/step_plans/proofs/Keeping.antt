@@ -13,9 +13,9 @@ use Rattle.hept_ast.specs.declared.tree.CoreNode.{CoreNode}
 use Rattle.hept_ast.specs.declared.tree.Decl.{Decl}
 use Rattle.hept_ast.proofs.Depths.{to_rule}
 use Rattle.step_plans.specs.Kept.{was_here, was_away, one_more, no_more}
-use Rattle.step_plans.specs.Things.{Thing, Here, Named, Memory, HasAnswer, HasTruth, IsKept, IsBegun, Content, clock_of, scope_of}
+use Rattle.step_plans.specs.Things.{Thing, Memory, HasAnswer, HasTruth, IsKept, IsBegun, Content, clock_of, scope_of}
 use Rattle.step_plans.specs.Operations.{Register, In_values, In_futures, Storing, stored}
-use Rattle.step_plans.specs.Plans.{Ground, Entry, Has, newest, older, Keeps, value_always, value_where, value_unless, presence_where, presence_unless, Calls, IsEarlier, Progress, MakesAll, Does, computes, moves, offers, gets, Knows_more, known, made, action, also, with_results, at_start, inputs_at, start_of, top_of}
+use Rattle.step_plans.specs.Plans.{Ground, Entry, Has, newest, older, Keeps, value_always, value_where, value_unless, presence_where, presence_unless, Calls, IsEarlier, Progress, MakesAll, Does, computes, moves, offers, gets, Knows_more, known, made, action, also, with_results, at_start, inputs_at, top_of}
 use Rattle.step_plans.specs.Instants.{HoldsAll, IsCounted, VariablesHave, KeepsHolds}
 use Rattle.step_plans.specs.declared.action.Action.{Action}
 use Rattle.step_plans.specs.declared.action.Offering.{Offering}

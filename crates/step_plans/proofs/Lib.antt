@@ -6,3 +6,4 @@ pub mod Making
 pub mod FormsOut
 pub mod SentOf
 pub mod Keeping
+pub mod CallsMore

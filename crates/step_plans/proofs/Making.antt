@@ -1,8 +1,8 @@
 -- What registers stand for as the instructions are done.
-use Rattle.std.proofs.Common.{◌≡◌, ◌≢◌, ℕ, suc, ◌+◌, ◌<◌, ◌≤◌, Bool, true, false, List, [], ◌∷◌, ◌++◌, length, Option, Some, None, refl, sym, subst, ap, ◌∙◌, arith, get_or-set_same, get_or-set_other, length-set}
+use Rattle.std.proofs.Common.{◌≡◌, ℕ, Bool, true, false, List, [], ◌∷◌, ◌++◌, Option, Some, None, refl, sym, subst, ap, ◌∙◌}
 use Rattle.std.specs.List.{find}
 use Rattle.std.proofs.lemmas.Bool.Decides.{Decides-eqb}
-use Rattle.std.specs.Prelude.{if◌then◌else◌, ◌==◌, ◌&&◌, ◌||◌, slice_get, slice_index, slice_index_or, slice_set}
+use Rattle.std.specs.Prelude.{if◌then◌else◌, ◌==◌, ◌&&◌, ◌||◌, slice_get, slice_index_or}
 use Rattle.hept_ast.specs.Values.{truth}
 use Rattle.hept_ast.specs.Texts.{Name, is_in, names, place_in, tag_value}
 use Rattle.hept_ast.specs.Scopes.{Clock, Text, Lowered, Scope, Top, Called, In_branch, In_body, In_state, Under, equation_of, outputs_of, text_of}
@@ -16,13 +16,10 @@ use Rattle.hept_ast.specs.declared.tree.CoreNode.{CoreNode}
 use Rattle.hept_ast.specs.declared.tree.CoreEquation.{CoreEquation}
 use Rattle.hept_ast.specs.declared.tree.ClockStep.{ClockStep}
 use Rattle.hept_ast.proofs.Depths.{to_rule, one_answer}
-use Rattle.step_plans.specs.Things.{Thing, Shows, HasAnswer, HasTruth, IsAgain, IsBegun, ShowsBranch, Holds, Each}
+use Rattle.step_plans.specs.Things.{Thing, Shows, HasAnswer, HasTruth, IsAgain, ShowsBranch, Holds}
 use Rattle.step_plans.specs.Operations.{Register, Operation, outcome}
-use Rattle.step_plans.specs.Instants.{EachOf, IsFirm, IsCovered, IsCounted, HasNoReply, Known, HoldsAll, MakesHolds, MeansHolds}
-use Rattle.step_plans.specs.Plans.{Ground, Entry, At, Has, newest, older, IsBodyOf, Tests, Calls, Progress, Makes, part, flag, no_reset, reset, reads_left, reads_seen, branch, Covers, Means, variable, sampled, last_branch, merged, defines, defines_output, variable_under, here_under, again_under, here_called, again_called, argument, result, async_call, call, Does, Knows_more, MakesAll, made, action, also, OneActionMore, OneMeaningMore}
-use Rattle.step_plans.specs.declared.action.Action.{Action}
-use Rattle.step_plans.specs.declared.action.Offering.{Offering}
-use Rattle.hept_ast.specs.Sites.{Site}
+use Rattle.step_plans.specs.Instants.{IsFirm, IsCovered, IsCounted, HasNoReply, Known, HoldsAll, MakesHolds, MeansHolds}
+use Rattle.step_plans.specs.Plans.{Ground, Entry, IsBodyOf, Tests, Calls, Makes, part, flag, no_reset, reset, reads_left, reads_seen, branch, Covers, Means, variable, sampled, last_branch, merged, defines, defines_output, variable_under, here_under, again_under, here_called, again_called, argument, result, async_call, call, made, action, also, OneActionMore, OneMeaningMore}
 use Rattle.step_plans.proofs.Frames.{K, Comes, by_form, comes_by, comes_counted, where_present, variable_under as under, present_under, present_called, again_without, again_called as again_in_call, quiet_again, restart_more, present_then, present_not}
 use Rattle.step_plans.proofs.Reading.{left_is, seen_is}
 use Rattle.step_plans.proofs.Computing.{computes}
@@ -299,7 +296,6 @@ module _ (w : Setting) (rows : List (List ℕ)) (t : ℕ) (g : Ground) (cells no
       by_form w rows s t (now h) _ e c (Form-F.AsyncCall queue f args) (holds _ h here) is (comes_by w rows _ _ (holds _ r of_e))
   means_thing thing r holds (call e f args c s h is here of_e) =
       by_form w rows s t (now h) _ e c (Form-F.Call f args) (holds _ h here) is (comes_by w rows _ _ (holds _ r of_e))
-
 
 pub makes_holds : MakesHolds
 makes_holds w rows t g cells now entries o thing known holds makes = makes_thing w rows t g cells now known entries o thing holds makes

@@ -6,9 +6,9 @@ use Rattle.hept_ast.specs.Scopes.{Clock, Scope}
 use Rattle.hept_ast.specs.Meaning.{Restarted, Is, Setting}
 use Rattle.hept_ast.specs.declared.tree.Expr.{Expr}
 use Rattle.step_plans.specs.Kept.{again, not_again}
-use Rattle.step_plans.specs.Things.{Thing, Memory, Value_of, Presence_of, IsAgain, IsSeen, IsLeft, IsKept, IsBegun, PreviousOf, Content, clock_of, scope_of, initial_of, Holds, Each}
+use Rattle.step_plans.specs.Things.{Memory, Value_of, Presence_of, IsAgain, IsSeen, IsLeft, IsKept, IsBegun, PreviousOf, Content, clock_of, scope_of, initial_of}
 use Rattle.step_plans.specs.Operations.{Register, Operation, outcome}
-use Rattle.step_plans.specs.Plans.{Ground, memory_at, Entry, Has, IsQuiet, ReadsLeft, left, left_unless, ReadsSeen, seen, seen_unless}
+use Rattle.step_plans.specs.Plans.{Ground, memory_at, Entry, IsQuiet, ReadsLeft, left, left_unless, ReadsSeen, seen, seen_unless}
 use Rattle.step_plans.specs.Instants.{HoldsAll}
 use Rattle.step_plans.proofs.Frames.{K, quiet_again}
 

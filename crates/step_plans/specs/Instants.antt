@@ -1,5 +1,5 @@
 -- One instant of a node by its plan.
-use Rattle.std.specs.Prelude.{◌≡◌, ℕ, suc, ◌==◌, Bool, true, List, length, map, Option, Some, None, slice_get, slice_index, ◌++◌, ◌∷◌, []}
+use Rattle.std.specs.Prelude.{◌≡◌, ℕ, suc, ◌==◌, Bool, true, List, map, Some, None, slice_get, slice_index, ◌++◌, ◌∷◌, []}
 use Rattle.std.specs.List.{find}
 use Rattle.hept_ast.specs.Values.{truth}
 use Rattle.hept_ast.specs.Texts.{Name, names, tag_value}
@@ -15,7 +15,7 @@ use Rattle.step_cells.specs.declared.cell.Handle.{Handle}
 use Rattle.step_plans.specs.Kept.{Counted}
 use Rattle.step_plans.specs.Things.{Thing, HasAnswer, Holds, IsKept, IsBegun, Memory, Each}
 use Rattle.step_plans.specs.Books.{Book, of_instance, worth}
-use Rattle.step_plans.specs.Operations.{Register, In_values, Operation, Storing, look, outcome, stored}
+use Rattle.step_plans.specs.Operations.{Register, In_values, Operation, Storing, outcome, stored}
 use Rattle.step_plans.specs.Plans.{Ground, Entry, Has, Makes, Means, Keeps, memory_at, Tested, Tests, Covering, Covers, Calling, Calls, IsPlanOf, top_of}
 use Rattle.step_plans.specs.Sending.{AgreesWith, IsMade, IsSent, as_sent, IsMark, HaveArguments}
 use Rattle.step_plans.specs.declared.plan.NodePlan.{NodePlan}

@@ -5,3 +5,4 @@ pub mod Things
 pub mod Plans
 pub mod Sending
 pub mod Instants
+pub mod Memories

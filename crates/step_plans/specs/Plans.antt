@@ -1,6 +1,6 @@
 -- What links a plan to a node of a core in normal form and in order, by cases, over the node's expanded text.
-use Rattle.std.specs.Prelude.{◌≡◌, ℕ, zero, suc, ◌+◌, ◌-◌, ◌<◌, ◌==◌, Bool, true, false, List, [], ◌∷◌, ◌++◌, length, map, take, Option, Some, None, slice_get, slice_index, slice_index_or}
-use Rattle.std.specs.List.{find, list_any}
+use Rattle.std.specs.Prelude.{◌≡◌, ℕ, zero, suc, ◌+◌, ◌-◌, ◌<◌, ◌==◌, Bool, true, false, List, [], ◌∷◌, ◌++◌, length, map, take, Option, Some, None, slice_get, slice_index_or}
+use Rattle.std.specs.List.{list_any}
 use Rattle.hept_ast.specs.Texts.{Name, is_in, names, place_in, const_value, tag_value}
 use Rattle.hept_ast.specs.Scopes.{Clock, Text, Lowered, Scope, Top, Called, Under, equation_of, outputs_of}
 use Rattle.hept_ast.specs.Meaning.{clock_of_equation}

@@ -5,7 +5,6 @@ use Rattle.hept_ast.specs.Meaning.{Question, Present, Restarted, Gives, Answer, 
 use Rattle.hept_ast.specs.Outputs.{Knows, HaveValues}
 use Rattle.hept_ast.specs.Sites.{Site, Sent, argument_questions, path_of}
 use Rattle.hept_ast.specs.declared.tree.Expr.{Expr}
-use Rattle.step_cells.specs.declared.cell.Cell.{Cell}
 use Rattle.step_cells.specs.declared.cell.Handle.{Handle}
 use Rattle.step_plans.specs.Kept.{Counted}
 use Rattle.step_plans.specs.Things.{HasAnswer, HasTruth, IsAgain}

@@ -1,4 +1,5 @@
 ghost use Rattle.step_plans.specs.Kept.{PreviousIsKept};
+ghost use Rattle.step_plans.specs.Memories.{NewStandsForNone, OneCallMore};
 ghost use Rattle.step_plans.specs.Plans.{OneActionMore, OneMeaningMore};
 ghost use Rattle.step_plans.specs.Sending.{OneInstantMore, SentUpToNow};
 ghost use Rattle.step_plans.specs.Instants.{KeepsHolds, MakesHolds, MeansHolds};
@@ -29,4 +30,11 @@ pub fn building_laws()
 pub fn sending_laws()
     ensures one_more { OneInstantMore }
     ensures sent { SentUpToNow }
+{}
+
+/// A new memory stands for no calls, and an instant for one call more, marked or not.
+#[tactic(none)]
+pub fn memory_laws()
+    ensures none { NewStandsForNone }
+    ensures more { OneCallMore }
 {}

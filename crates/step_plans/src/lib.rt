@@ -8,5 +8,5 @@ mod plan;
 
 pub use action::{Action, Offering, Source};
 pub use instruction::{FutureInstruction, Instruction, Store};
-pub use laws::{building_laws, kept_laws, plan_laws, sending_laws};
+pub use laws::{building_laws, kept_laws, memory_laws, plan_laws, sending_laws};
 pub use plan::NodePlan;
