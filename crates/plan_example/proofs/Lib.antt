@@ -1,0 +1,2 @@
+pub mod FormsMore
+pub mod Planned

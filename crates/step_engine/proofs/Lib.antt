@@ -1,0 +1,4 @@
+pub mod Passing
+pub mod ActionsDone
+pub mod FuturesKept
+pub mod WholeInstant
