@@ -172,12 +172,16 @@ pub(crate) fn pair(
     Ok(equations)
 }
 
+// An equation whose right side is the sum of a variable with itself.
+fn doubled(alloc: Global, left: &[u8], right: &[u8]) -> Result<CoreEquation, AllocError> {
+    equation(alloc, left, double(alloc, right)?)
+}
+
 // y = a + a, a = b + b, b = x
 pub(crate) fn chain(alloc: Global) -> Result<Items<CoreEquation>, AllocError> {
-    let y = equation(alloc, b"y", double(alloc, b"a")?)?;
-    let a = equation(alloc, b"a", double(alloc, b"b")?)?;
-    let b = equation(alloc, b"b", read(alloc, b"x")?)?;
-    let mut equations = pair(alloc, y, a)?;
-    equations.push(b)?;
+    let mut equations = Items::new(alloc);
+    equations.push(doubled(alloc, b"y", b"a")?)?;
+    equations.push(doubled(alloc, b"a", b"b")?)?;
+    equations.push(equation(alloc, b"b", read(alloc, b"x")?)?)?;
     Ok(equations)
 }
