@@ -1,13 +1,14 @@
 //! Reads expressions, with one function for each production.
-ghost use Rattle.std.specs.Prelude.{◌≡◌, ◌<◌, ◌≤◌, length, IfOk, MatchResult};
-ghost use Rattle.ept_grammar.specs.Grammar.{After_minus, Args, Arrows, Async_tail, Atom, Call_tail, Called, Expression, Fbys, Infix, Choosing, Else_part, Merge_branch, Merge_list, Merging, Operand, Prefix, Sample_of, Sampled, Sampling, Signed, Then_part, Value, negated};
+ghost use Rattle.std.specs.Prelude.{◌≡◌, ◌<◌, ◌≤◌, ◌∷◌, length, IfOk, MatchResult};
+ghost use Rattle.ept_grammar.specs.Grammar.{After_minus, Args, Arrow_tail, Async_tail, Atom, Call_tail, Called, Expression, Fby_tail, Fbys, Infix, Choosing, Else_part, Merge_branch, Merge_list, Merging, Operand, Prefix, Sample_of, Samples, Sampling, Signed, Then_part, Value, at, between, negated, sampled as with_samples};
+ghost use Rattle.hept_ast.specs.declared.tree.Form.TheVariants as form;
 ghost use Rattle.ept_grammar.specs.Reading.{Fails, Reads, first, look, may_begin};
 
 use ept_grammar::{Counts, Fault, Level, Sample};
 use ept_steps::{
-    arrow, async_call, choice, constant, fby, get, has_one_sign, infix, infix_sign,
-    initial_constant, literal, merge, named, negative, operator, placed, pre, queued_call, tag,
-    take, unary, want, when,
+    InfixSign, arrow, async_call, choice, constant, fby, get, infix, infix_sign, initial_constant,
+    levels_to, literal, merge, named, negative, operator, placed, pre, queued_call, tag, take,
+    unary, want, when,
 };
 use ept_tokens::{Kind, Token};
 use hept_ast::{Expr, Form, MergeBranch, Name, Place, Tag, UnaryOp, copy_name};
@@ -55,6 +56,30 @@ fn starts_sample(tokens: &[Token]) -> bool
         None => false,
         Some((token, _)) => begins_sample(token.kind),
     }
+}
+
+/// The samples that come next, of what they sample.
+fn samples(
+    alloc: Global,
+    sampled: Expr,
+    tokens: &[Token],
+    counts: Counts,
+) -> Result<(Expr, &[Token], Counts), Fault>
+    ensures reads { MatchResult result
+        (λ x. (v : Value Samples) × Reads Samples tokens.now counts v x.1.now x.2 × (x.0 ≡ with_samples sampled v))
+        (λ e. Fails Samples tokens.now counts e) }
+    ensures shorter { IfOk result (λ x. length x.1.now ≤ length tokens.now) }
+{
+    let mut left = sampled;
+    let mut rest = tokens;
+    let mut now = counts;
+    'samples: while starts_sample(rest) {
+        let (next, end, then) = sample(alloc, rest, now)?;
+        left = when(alloc, left, next)?;
+        rest = end;
+        now = then;
+    }
+    Ok((left, rest, now))
 }
 
 /// A variable, or a tag and a variable in parentheses.
@@ -145,14 +170,30 @@ pub fn expression(
     ensures reads { MatchResult result (λ x. Reads Expression tokens.now counts x.0 x.1.now x.2) (λ e. Fails Expression tokens.now counts e) }
     ensures shorter { IfOk result (λ x. length x.1.now < length tokens.now) }
 {
-    match take(Kind::If, tokens) {
-        None => arrows(alloc, tokens, counts),
-        Some((word, rest)) => {
-            let counts = operator(counts, tokens.len())?;
-            let (form, rest, counts) = choosing(alloc, rest, counts)?;
-            Ok((placed(word, form), rest, counts))
-        }
+    if let Some((word, rest)) = take(Kind::If, tokens) {
+        return conditional(alloc, word, rest, counts);
     }
+    let (left, rest, counts) = fbys(alloc, tokens, counts)?;
+    arrow_tail(alloc, left, rest, counts)
+}
+
+/// An expression that begins with this word `if`.
+#[cycle(exprs)]
+fn conditional<'a>(
+    alloc: Global,
+    word: &Token,
+    tokens: &'a [Token],
+    counts: Counts,
+) -> Result<(Expr, &'a [Token], Counts), Fault>
+    requires { word.now.kind ≡ Kind.If }
+    ensures reads { MatchResult result
+        (λ x. Reads Expression (word.now ∷ tokens.now) counts x.0 x.1.now x.2)
+        (λ e. Fails Expression (word.now ∷ tokens.now) counts e) }
+    ensures shorter { IfOk result (λ x. length x.1.now < length tokens.now) }
+{
+    let counts = operator(counts, 1 + tokens.len())?;
+    let (form, rest, counts) = choosing(alloc, tokens, counts)?;
+    Ok((placed(word, form), rest, counts))
 }
 
 /// What comes after the word `if`.
@@ -197,24 +238,25 @@ fn else_part(
     expression(alloc, rest, counts)
 }
 
+/// An arrow and its right operand, if there is one, with the left one.
 #[cycle(exprs)]
-fn arrows(
+fn arrow_tail(
     alloc: Global,
+    left: Expr,
     tokens: &[Token],
     counts: Counts,
 ) -> Result<(Expr, &[Token], Counts), Fault>
-    ensures reads { MatchResult result (λ x. Reads Arrows tokens.now counts x.0 x.1.now x.2) (λ e. Fails Arrows tokens.now counts e) }
-    ensures shorter { IfOk result (λ x. length x.1.now < length tokens.now) }
+    ensures reads { MatchResult result
+        (λ x. (v : Value Arrow_tail) × Reads Arrow_tail tokens.now counts v x.1.now x.2 × (x.0 ≡ between (λ a b. form.Arrow a b) left v))
+        (λ e. Fails Arrow_tail tokens.now counts e) }
+    ensures shorter { IfOk result (λ x. length x.1.now ≤ length tokens.now) }
 {
-    let (left, rest, counts) = fbys(alloc, tokens, counts)?;
-    match take(Kind::Arrow, rest) {
-        None => Ok((left, rest, counts)),
-        Some((sign, after)) => {
-            let counts = operator(counts, rest.len())?;
-            let (right, end, counts) = expression(alloc, after, counts)?;
-            Ok((arrow(alloc, sign.place, left, right)?, end, counts))
-        }
-    }
+    let Some((sign, after)) = take(Kind::Arrow, tokens) else {
+        return Ok((left, tokens, counts));
+    };
+    let counts = operator(counts, tokens.len())?;
+    let (right, rest, counts) = expression(alloc, after, counts)?;
+    Ok((arrow(alloc, sign.place, left, right)?, rest, counts))
 }
 
 #[cycle(exprs)]
@@ -222,37 +264,33 @@ fn fbys(alloc: Global, tokens: &[Token], counts: Counts) -> Result<(Expr, &[Toke
     ensures reads { MatchResult result (λ x. Reads Fbys tokens.now counts x.0 x.1.now x.2) (λ e. Fails Fbys tokens.now counts e) }
     ensures shorter { IfOk result (λ x. length x.1.now < length tokens.now) }
 {
-    let (left, rest, counts) = sampled(alloc, tokens, counts)?;
-    match take(Kind::Fby, rest) {
-        None => Ok((left, rest, counts)),
-        Some((sign, after)) => {
-            let counts = operator(counts, rest.len())?;
-            let (right, end, counts) = fbys(alloc, after, counts)?;
-            Ok((fby(alloc, sign.place, left, right)?, end, counts))
-        }
-    }
+    let (left, rest, counts) = level(alloc, Level::Or, tokens, counts)?;
+    let (left, rest, counts) = samples(alloc, left, rest, counts)?;
+    fby_tail(alloc, left, rest, counts)
 }
 
+/// A `fby` and its right operand, if there is one, with the left one.
 #[cycle(exprs)]
-fn sampled(
+fn fby_tail(
     alloc: Global,
+    left: Expr,
     tokens: &[Token],
     counts: Counts,
 ) -> Result<(Expr, &[Token], Counts), Fault>
-    ensures reads { MatchResult result (λ x. Reads Sampled tokens.now counts x.0 x.1.now x.2) (λ e. Fails Sampled tokens.now counts e) }
-    ensures shorter { IfOk result (λ x. length x.1.now < length tokens.now) }
+    ensures reads { MatchResult result
+        (λ x. (v : Value Fby_tail) × Reads Fby_tail tokens.now counts v x.1.now x.2 × (x.0 ≡ between (λ a b. form.Fby a b) left v))
+        (λ e. Fails Fby_tail tokens.now counts e) }
+    ensures shorter { IfOk result (λ x. length x.1.now ≤ length tokens.now) }
 {
-    let (mut left, mut rest, mut now) = level(alloc, Level::Or, tokens, counts)?;
-    'samples: while starts_sample(rest) {
-        let (next, end, then) = sample(alloc, rest, now)?;
-        left = when(alloc, left, next)?;
-        rest = end;
-        now = then;
-    }
-    Ok((left, rest, now))
+    let Some((sign, after)) = take(Kind::Fby, tokens) else {
+        return Ok((left, tokens, counts));
+    };
+    let counts = operator(counts, tokens.len())?;
+    let (right, rest, counts) = fbys(alloc, after, counts)?;
+    Ok((fby(alloc, sign.place, left, right)?, rest, counts))
 }
 
-/// Operands with infix signs of a level between them.
+/// Operands with infix signs of a level between them, and of closer ones between signs of that.
 #[cycle(exprs)]
 fn level(
     alloc: Global,
@@ -263,18 +301,32 @@ fn level(
     ensures reads { MatchResult result (λ x. Reads (Infix level) tokens.now counts x.0 x.1.now x.2) (λ e. Fails (Infix level) tokens.now counts e) }
     ensures shorter { IfOk result (λ x. length x.1.now < length tokens.now) }
 {
-    let (mut left, mut rest, mut now) = operand(alloc, level, tokens, counts)?;
-    'signs: while let Some((sign, token, after)) = infix_sign(level, rest) {
+    let (mut left, mut rest, mut now) = prefix(alloc, tokens, counts)?;
+    let mut levels = levels_to(level);
+    'signs: while let Some(sign) = infix_sign(levels, rest) {
         now = operator(now, rest.len())?;
-        let (right, end, then) = operand(alloc, level, after, now)?;
-        left = infix(alloc, token.place, sign, left, right)?;
-        if has_one_sign(level) {
-            return Ok((left, end, then));
-        }
-        rest = end;
-        now = then;
+        (left, rest, now) = with_operand(alloc, left, sign, now)?;
+        levels = sign.levels;
     }
     Ok((left, rest, now))
+}
+
+/// An expression with this sign after it, and the right operand that comes next.
+#[cycle(exprs)]
+fn with_operand<'a>(
+    alloc: Global,
+    left: Expr,
+    sign: InfixSign<'a>,
+    counts: Counts,
+) -> Result<(Expr, &'a [Token], Counts), Fault>
+    ensures reads { MatchResult result
+        (λ x. (right : Expr) × Reads (Operand sign.entry.level) sign.entry.after.now counts right x.1.now x.2 × (x.0 ≡ at sign.entry.token.now.place (form.Binary sign.entry.operator left right)))
+        (λ e. Fails (Operand sign.entry.level) sign.entry.after.now counts e) }
+    ensures shorter { IfOk result (λ x. length x.1.now < length sign.entry.after.now) }
+{
+    let (right, rest, counts) = operand(alloc, sign.level, sign.after, counts)?;
+    let whole = infix(alloc, sign.token.place, sign.operator, left, right)?;
+    Ok((whole, rest, counts))
 }
 
 /// An operand of the infix signs of a level.
@@ -377,26 +429,94 @@ fn atom(alloc: Global, tokens: &[Token], counts: Counts) -> Result<(Expr, &[Toke
     ensures shorter { IfOk result (λ x. length x.1.now < length tokens.now) }
 {
     if let Some((name, rest)) = take(Kind::Lower, tokens) {
-        let (args, rest, counts) = call_tail(alloc, rest, counts)?;
-        return Ok((named(alloc, name, args)?, rest, counts));
+        return variable(alloc, name, rest, counts);
     }
-    if let Some((_, inside)) = take(Kind::OpenParen, tokens) {
-        let counts = operator(counts, tokens.len())?;
-        let (inner, end, counts) = expression(alloc, inside, counts)?;
-        let (_, rest) = want(Kind::CloseParen, end)?;
-        return Ok((inner, rest, counts));
+    if let Some((open, rest)) = take(Kind::OpenParen, tokens) {
+        return parenthesised(alloc, open, rest, counts);
     }
     if let Some((word, rest)) = take(Kind::Merge, tokens) {
-        let counts = operator(counts, tokens.len())?;
-        let (form, rest, counts) = merging(alloc, rest, counts)?;
-        return Ok((placed(word, form), rest, counts));
+        return merged(alloc, word, rest, counts);
     }
     if let Some((word, rest)) = take(Kind::Async, tokens) {
-        let counts = operator(counts, tokens.len())?;
-        let (form, rest, counts) = async_tail(alloc, rest, counts)?;
-        return Ok((placed(word, form), rest, counts));
+        return asynchronous(alloc, word, rest, counts);
     }
     literal(alloc, tokens, counts)
+}
+
+/// A variable, or a call, that begins with this name.
+#[cycle(exprs)]
+fn variable<'a>(
+    alloc: Global,
+    name: &Token,
+    tokens: &'a [Token],
+    counts: Counts,
+) -> Result<(Expr, &'a [Token], Counts), Fault>
+    requires { name.now.kind ≡ Kind.Lower }
+    ensures reads { MatchResult result
+        (λ x. Reads Atom (name.now ∷ tokens.now) counts x.0 x.1.now x.2)
+        (λ e. Fails Atom (name.now ∷ tokens.now) counts e) }
+    ensures shorter { IfOk result (λ x. length x.1.now ≤ length tokens.now) }
+{
+    let (args, rest, counts) = call_tail(alloc, tokens, counts)?;
+    Ok((named(alloc, name, args)?, rest, counts))
+}
+
+/// An expression after this parenthesis.
+#[cycle(exprs)]
+fn parenthesised<'a>(
+    alloc: Global,
+    paren: &Token,
+    tokens: &'a [Token],
+    counts: Counts,
+) -> Result<(Expr, &'a [Token], Counts), Fault>
+    requires { paren.now.kind ≡ Kind.OpenParen }
+    ensures reads { MatchResult result
+        (λ x. Reads Atom (paren.now ∷ tokens.now) counts x.0 x.1.now x.2)
+        (λ e. Fails Atom (paren.now ∷ tokens.now) counts e) }
+    ensures shorter { IfOk result (λ x. length x.1.now ≤ length tokens.now) }
+{
+    let counts = operator(counts, 1 + tokens.len())?;
+    let (inner, end, counts) = expression(alloc, tokens, counts)?;
+    let (_, rest) = want(Kind::CloseParen, end)?;
+    Ok((inner, rest, counts))
+}
+
+/// A `merge` that begins with this word.
+#[cycle(exprs)]
+fn merged<'a>(
+    alloc: Global,
+    word: &Token,
+    tokens: &'a [Token],
+    counts: Counts,
+) -> Result<(Expr, &'a [Token], Counts), Fault>
+    requires { word.now.kind ≡ Kind.Merge }
+    ensures reads { MatchResult result
+        (λ x. Reads Atom (word.now ∷ tokens.now) counts x.0 x.1.now x.2)
+        (λ e. Fails Atom (word.now ∷ tokens.now) counts e) }
+    ensures shorter { IfOk result (λ x. length x.1.now ≤ length tokens.now) }
+{
+    let counts = operator(counts, 1 + tokens.len())?;
+    let (form, rest, counts) = merging(alloc, tokens, counts)?;
+    Ok((placed(word, form), rest, counts))
+}
+
+/// A constant or a call that begins with this word `async`.
+#[cycle(exprs)]
+fn asynchronous<'a>(
+    alloc: Global,
+    word: &Token,
+    tokens: &'a [Token],
+    counts: Counts,
+) -> Result<(Expr, &'a [Token], Counts), Fault>
+    requires { word.now.kind ≡ Kind.Async }
+    ensures reads { MatchResult result
+        (λ x. Reads Atom (word.now ∷ tokens.now) counts x.0 x.1.now x.2)
+        (λ e. Fails Atom (word.now ∷ tokens.now) counts e) }
+    ensures shorter { IfOk result (λ x. length x.1.now ≤ length tokens.now) }
+{
+    let counts = operator(counts, 1 + tokens.len())?;
+    let (form, rest, counts) = async_tail(alloc, tokens, counts)?;
+    Ok((placed(word, form), rest, counts))
 }
 
 /// The arguments after a name, if there are any.

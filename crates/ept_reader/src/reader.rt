@@ -4,8 +4,8 @@ ghost use Rattle.ept_reader.specs.Spelling.{IsProgramText, IsRefusalOf, AnswersS
 ghost use Rattle.hept_ast.specs.declared.tree.Program.{Program as ProgramTree};
 ghost use Rattle.ept_reader.specs.declared.reader.ReadFault.{ReadFault as AnyFault};
 
-use crate::programs::read_tokens;
 use ept_grammar::Fault;
+use ept_programs::read_tokens;
 use ept_tokens::{CutFault, Token, cut};
 use hept_ast::{Place, Program};
 use std::alloc::Global;

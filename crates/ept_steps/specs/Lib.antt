@@ -1,2 +1,3 @@
 pub use Rattle.ept_grammar.specs.Grammar
 pub use Rattle.ept_grammar.specs.Reading
+pub mod Signs

@@ -14,4 +14,4 @@ pub use constants::{constant as initial_constant, initial, literal, tag, type_of
 pub use look_ahead::{
     closed, closed_fresh, copy_token, fresh, opened, opened_fresh, operator, take, want,
 };
-pub use signs::{has_one_sign, infix_sign};
+pub use signs::{InfixSign, infix_sign, levels_to};

@@ -1,7 +1,7 @@
 //! The infix signs, level by level.
-ghost use Rattle.std.specs.Prelude.{false, ◌≡◌, ◌∷◌, None, Some, MatchBool, MatchOption};
-ghost use Rattle.ept_grammar.specs.Grammar.{Operands, again, sign_at};
-ghost use Rattle.ept_grammar.specs.Reading.{look, may_begin};
+ghost use Rattle.std.specs.Prelude.{◌≡◌, ◌∷◌, None, Some, MatchOption};
+ghost use Rattle.ept_grammar.specs.Grammar.{sign_at};
+ghost use Rattle.ept_steps.specs.Signs.{level_of, levels_after, levels_to, next_sign};
 
 use ept_grammar::Level;
 use ept_tokens::{Kind, Token};
@@ -74,24 +74,70 @@ fn operator_of(level: Level, kind: Kind) -> Option<BinaryOp>
     }
 }
 
-/// The sign of this level that comes next: the operator that it stands for, itself, and what follows it.
-pub fn infix_sign(level: Level, tokens: &[Token]) -> Option<(BinaryOp, &Token, &[Token])>
-    ensures { MatchOption result (may_begin (Operands (Some level)) (look tokens.now) ≡ false)
-        (λ x. (tokens.now ≡ x.1.now ∷ x.2.now) × (sign_at level x.1.now.kind ≡ Some x.0)) }
+/// The levels of infix signs from the closest one to this one.
+pub fn levels_to(level: Level) -> &'static [Level]
+    ensures { result.now ≡ levels_to level }
 {
-    let (first, rest) = tokens.split_first()?;
-    match operator_of(level, first.kind) {
-        None => None,
-        Some(operator) => Some((operator, first, rest)),
+    match level {
+        Level::Product => &[Level::Product],
+        Level::Sum => &[Level::Product, Level::Sum],
+        Level::Comparison => &[Level::Product, Level::Sum, Level::Comparison],
+        Level::And => &[Level::Product, Level::Sum, Level::Comparison, Level::And],
+        Level::Or => &[
+            Level::Product,
+            Level::Sum,
+            Level::Comparison,
+            Level::And,
+            Level::Or,
+        ],
     }
 }
 
-/// Whether expressions of this level have one sign at most.
-pub fn has_one_sign(level: Level) -> bool
-    ensures { MatchBool result (again level ≡ None) (again level ≡ Some level) }
+/// The levels whose signs may come after a sign of the first of these: a comparison has one sign at most.
+fn levels_after(levels: &[Level]) -> &[Level]
+    ensures { result.now ≡ levels_after levels.now }
 {
-    match level {
-        Level::Comparison => true,
-        _ => false,
+    match levels {
+        [Level::Comparison, looser @ ..] => looser,
+        _ => levels,
     }
+}
+
+/// The first of the levels that has the sign, the operator, and the levels whose signs may come after it.
+fn level_of(mut levels: &[Level], kind: Kind) -> Option<(Level, BinaryOp, &[Level])>
+    ensures { MatchOption result (level_of kind levels.now ≡ None) (λ x. level_of kind levels.now ≡ Some (x.0, x.1, x.2.now)) }
+{
+    while let [level, looser @ ..] = levels {
+        if let Some(operator) = operator_of(*level, kind) {
+            return Some((*level, operator, levels_after(levels)));
+        }
+        levels = looser;
+    }
+    None
+}
+
+/// An infix sign that comes next, what comes after it, and the levels whose signs may come after its right operand.
+#[derive(Clone, Copy)]
+pub struct InfixSign<'a> {
+    pub level: Level,
+    pub operator: BinaryOp,
+    pub token: &'a Token,
+    pub after: &'a [Token],
+    pub levels: &'a [Level],
+}
+
+/// The sign of one of these levels that comes next.
+pub fn infix_sign<'a>(levels: &'a [Level], tokens: &'a [Token]) -> Option<InfixSign<'a>>
+    ensures { MatchOption result (next_sign levels.now tokens.now ≡ None)
+        (λ x. (tokens.now ≡ x.token.now ∷ x.after.now) × (next_sign levels.now tokens.now ≡ Some (x.level, x.operator, x.levels.now))) }
+{
+    let (token, after) = tokens.split_first()?;
+    let (level, operator, levels) = level_of(levels, token.kind)?;
+    Some(InfixSign {
+        level,
+        operator,
+        token,
+        after,
+        levels,
+    })
 }

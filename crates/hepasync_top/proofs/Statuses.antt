@@ -1,8 +1,6 @@
 -- What the statuses of a run say.
-use Rattle.run_checks.specs.Words.{file_of}
-use Rattle.std.proofs.Common.{◌<◌, ◌≡◌, ℕ, ◌+◌, ◌≤◌, ◌⊎◌, inl, inr, ⊎_elim, List, [], ◌∷◌, ◌++◌, length, map, Option, Some, None, Ok, length-append, refl, ap, ◌∙◌, subst, arith}
-use Rattle.std.specs.Bool.{⊤}
-use Rattle.std.specs.Prelude.{IfSome, IsSomeAnd}
+use Rattle.std.proofs.Common.{◌<◌, ◌≡◌, ℕ, ◌+◌, ◌≤◌, ◌⊎◌, inl, inr, List, [], ◌∷◌, ◌++◌, length, map, Option, Some, None, Result, Ok, Err, length-append, refl, sym, ap, ◌∙◌, subst, arith}
+use Rattle.std.specs.Prelude.{IsSomeAnd, OnErr}
 use Rattle.std.proofs.lemmas.List.{append-nil}
 use Rattle.hept_io.specs.LineLaws.{NoneOfNone}
 use Rattle.std.specs.Io.KnownBytes.{Appends, Consumes, IsAtEnd}
@@ -11,10 +9,14 @@ use Rattle.hept_ast.specs.Scopes.{Text}
 use Rattle.hept_ast.specs.Meaning.{Setting}
 use Rattle.hept_ast.specs.Outputs.{OutputsFrom, Outputs}
 use Rattle.hept_ast.specs.Erasure.{erased}
-use Rattle.hept_io.specs.Outside.{Files}
+use Rattle.ept_reader.specs.Spelling.{IsProgramText}
+use Rattle.hept_io.specs.Outside.{Files, Rose}
+use Rattle.hept_io.specs.declared.outside.Failed.{Failed}
 use Rattle.hept_io.specs.Lines.{Reading, to_come, lines_of}
 use Rattle.run_messages.specs.Ends.{status_of}
-use Rattle.run_checks.specs.Stops.{IsProgramFile, StopsFor}
+use Rattle.run_checks.specs.Stops.{IsRunnable}
+use Rattle.run_messages.specs.Lines.{Writes, line_of}
+use Rattle.run_messages.specs.declared.end.Refusal.{Refusal}
 use Rattle.trace_io.specs.RowText.{row_text}
 use Rattle.trace_io.specs.OutputText.{output_text}
 use Rattle.step_objects.specs.declared.shape.Values.{Values}
@@ -23,7 +25,8 @@ use Rattle.hepasync_top.specs.Outputs.{ErasedOutputs}
 use Rattle.hept_ast.specs.Settings.{no_marks, no_replies, of_program}
 use Rattle.hept_ast.specs.ClockMaps.{clock_in}
 use Rattle.hepasync_top.specs.Turns.{TakesRows, LosesRows, IsAhead, IsCutOff, NextIsBad, HasNext, EndsAfter, EndsInPart, RunEnds}
-use Rattle.hepasync_top.specs.Run.{IsBefore, Written, WrittenWhereTold, Ends, HasNoneLeft, WritesOnlyAfterReading}
+use Rattle.hepasync_top.specs.Objects.{StoreChange, StreamChange}
+use Rattle.hepasync_top.specs.Run.{Ends, EndsFor, IsBefore, IsFileText, Says, StopsFor, WritesOnlyAfterReading, Written, WrittenWhereTold}
 use Rattle.run_messages.specs.declared.end.End.{End}
 use Rattle.run_messages.specs.declared.end.End.TheVariants.{Ended, Refused, Usage, File, BadRow, Limit, ReadFault, WriteFault, Memory}
 
@@ -94,13 +97,16 @@ whole : (inputs : List Values) (bytes rest : List ℕ) (rows : List (List ℕ)) 
 whole inputs bytes rest rows none h e =
     ap (map (row_text inputs)) (h.cut ∙ ap (λ more. h.lines ++ lines_of more) e ∙ ap (λ ls. h.lines ++ ls) none ∙ append-nil h.lines) ∙ h.read
 
-told : (files : Files) (words : List (List ℕ)) (p : Program) (bytes before : List ℕ) (rest now : Option (List ℕ)) (rows outs : List (List ℕ)) → NoneOfNone → IsProgramFile files words p →
+told : (files : Option Files) (words : List (List ℕ)) (text : List ℕ) (p : Program) (bytes before : List ℕ) (rest now : Option (List ℕ)) (rows outs : List (List ℕ)) → NoneOfNone → IsFileText files words text → IsProgramText text p → IsRunnable p →
     LosesRows (input_shape p) (Some bytes) rows rest → ErasedOutputs p rows outs → Appends (Some before) now (output_text (output_shape p) outs) → IsAtEnd rest → IsSomeAnd now (λ after. Written files words bytes before after)
-told files words p bytes before None now rows outs none file read outputs written e = absurd read
-told files words p bytes before (Some rest) None rows outs none file read outputs written e = absurd written
-told files words p bytes before (Some rest) (Some after) rows outs none file read outputs written e = record {
-  program = p;
+told files words text p bytes before None now rows outs none file spelled runs read outputs written e = absurd read
+told files words text p bytes before (Some rest) None rows outs none file spelled runs read outputs written e = absurd written
+told files words text p bytes before (Some rest) (Some after) rows outs none file spelled runs read outputs written e = record {
+  text = text;
   file = file;
+  program = p;
+  spelled = spelled;
+  runs = runs;
   rows = rows;
   read = whole (input_shape p) bytes rest rows none read e;
   outs = outs;
@@ -108,34 +114,35 @@ told files words p bytes before (Some rest) (Some after) rows outs none file rea
   written = written;
 }
 
-where_told : (limit : ℕ) (files : Option Files) (words : List (List ℕ)) (p : Program) (trace held left now : Option (List ℕ)) → NoneOfNone → IfSome files (λ files. IsProgramFile files words p) →
-    EndsAfter p trace held left now (λ n rest. (n ≤ limit) × IsAtEnd rest) → WrittenWhereTold files words trace held now
-where_told limit None words p trace held left now none file h = tt
-where_told limit (Some files) words p None held left now none file h = tt
-where_told limit (Some files) words p (Some bytes) None left now none file h = tt
-where_told limit (Some files) words p (Some bytes) (Some before) left now none file h = told files words p bytes before h.rest now h.rows h.outs none file h.counted.read h.counted.outputs h.counted.written h.why.1
-
-pub written_at_end : (limit : ℕ) (files : Option Files) (words : List (List ℕ)) (old new : ℕ) (trace held left now : Option (List ℕ)) (Kept : Type 0) (end : End) → NoneOfNone →
-    Ends limit files words old new trace held left now Kept end → end ≡ Ended → WrittenWhereTold files words trace held now
-written_at_end limit files words old new trace held left now Kept end none h e = ⊎_elim
-    (λ r. where_told limit files words r.program trace held left now none r.file (subst (RunEnds r.program limit trace held left now) e r.ends))
-    (λ b. absurd (subst (λ (e : End). StopsFor e files words old new) e b.why)) h
-
 empty : (bytes : List ℕ) → length bytes ≤ 0 → bytes ≡ []
 empty [] l = refl
 empty (b ∷ bytes) l = absurd (omega arith)
 
-none_left : (inputs : List Values) (trace rest left : Option (List ℕ)) (rows : List (List ℕ)) → LosesRows inputs trace rows rest → IsAhead rest left → IsAtEnd rest → HasNoneLeft trace left
-none_left inputs None rest left rows read ahead e = tt
-none_left inputs (Some bytes) None left rows read ahead e = absurd read
-none_left inputs (Some bytes) (Some rest) None rows read ahead e = absurd ahead.consumed
-none_left inputs (Some bytes) (Some rest) (Some left) rows read ahead e = ap Some (empty left (omega (arith, ap length e, ap length ahead.consumed, length-append ahead.taken left)))
+none_left : (inputs : List Values) (bytes : List ℕ) (rest left : Option (List ℕ)) (rows : List (List ℕ)) → LosesRows inputs (Some bytes) rows rest → IsAhead rest left → IsAtEnd rest → left ≡ Some []
+none_left inputs bytes None left rows read ahead e = absurd read
+none_left inputs bytes (Some rest) None rows read ahead e = absurd ahead.consumed
+none_left inputs bytes (Some rest) (Some left) rows read ahead e = ap Some (empty left (omega (arith, ap length e, ap length ahead.consumed, length-append ahead.taken left)))
 
-pub none_left_at_end : (limit : ℕ) (files : Option Files) (words : List (List ℕ)) (old new : ℕ) (trace held left now : Option (List ℕ)) (Kept : Type 0) (end : End) →
-    Ends limit files words old new trace held left now Kept end → end ≡ Ended → HasNoneLeft trace left
-none_left_at_end limit files words old new trace held left now Kept end h e = ⊎_elim
-    (λ r. let a = subst (RunEnds r.program limit trace held left now) e r.ends in none_left (input_shape r.program) trace a.rest left a.rows a.counted.read a.ahead a.why.1)
-    (λ b. absurd (subst (λ (e : End). StopsFor e files words old new) e b.why)) h
+where_told : (limit : ℕ) (files : Option Files) (words : List (List ℕ)) (text : List ℕ) (p : Program) (trace held left now : Option (List ℕ)) → NoneOfNone → IsFileText files words text → IsProgramText text p → IsRunnable p →
+    EndsAfter p trace held left now (λ n rest. (n ≤ limit) × IsAtEnd rest) → WrittenWhereTold files words trace left held now
+where_told limit files words text p None held left now none file spelled runs h = tt
+where_told limit files words text p (Some bytes) None left now none file spelled runs h = (none_left (input_shape p) bytes h.rest left h.rows h.counted.read h.ahead h.why.1, tt)
+where_told limit files words text p (Some bytes) (Some before) left now none file spelled runs h = (
+  none_left (input_shape p) bytes h.rest left h.rows h.counted.read h.ahead h.why.1,
+  told files words text p bytes before h.rest now h.rows h.outs none file spelled runs h.counted.read h.counted.outputs h.counted.written h.why.1,
+)
+
+text_written : (limit : ℕ) (files : Option Files) (words : List (List ℕ)) (text : List ℕ) (trace out : StreamChange) (end : End) → NoneOfNone → IsFileText files words text →
+    EndsFor limit text trace out end → end ≡ Ended → WrittenWhereTold files words trace.before trace.after out.before out.after
+text_written limit files words text trace out end none file (inl r) e =
+    where_told limit files words text r.program trace.before out.before trace.after out.after none file r.spelled r.runs (subst (RunEnds r.program limit trace.before out.before trace.after out.after) e r.ends)
+text_written limit files words text trace out end none file (inr (inl m)) e = absurd cc
+text_written limit files words text trace out end none file (inr (inr (r, is, h))) e = absurd cc
+
+pub written_at_end : (limit : ℕ) (words : List (List ℕ)) (store : StoreChange) (trace out : StreamChange) (end : End) → NoneOfNone →
+    Ends limit words store trace out end → end ≡ Ended → WrittenWhereTold store.files words trace.before trace.after out.before out.after
+written_at_end limit words store trace out end none (inl s) e = absurd (subst (λ (e : End). StopsFor e words store) e s)
+written_at_end limit words store trace out end none (inr (text, file, h)) e = text_written limit store.files words text trace out end none file h.ends e
 
 -- ---- nothing is written before some of the trace is read
 
@@ -189,18 +196,37 @@ same_now None left held now e = tt
 same_now (Some bytes) left None now e = tt
 same_now (Some bytes) left (Some before) now e = λ _. e
 
-pub untouched : (limit : ℕ) (files : Option Files) (words : List (List ℕ)) (old new : ℕ) (trace held left now : Option (List ℕ)) (Kept : Type 0) (end : End) →
-    Ends limit files words old new trace held left now Kept end → (Kept → now ≡ held) → WritesOnlyAfterReading trace left held now
-untouched limit files words old new trace held left now Kept end h same =
-    ⊎_elim (λ r. after_run r.program limit trace held left now end r.ends) (λ b. same_now trace left held now (same b.kept)) h
+-- an end without a text is one before the trace is read
+stops_before : (end : End) (words : List (List ℕ)) (store : StoreChange) → StopsFor end words store → IsBefore (status_of end)
+stops_before Usage words store h = inl (omega arith, omega arith)
+stops_before (File f) words store h = inl (omega arith, omega arith)
+stops_before Memory words store h = inr refl
+stops_before Ended words store h = absurd h
+stops_before (Refused r) words store h = absurd h
+stops_before (BadRow l f) words store h = absurd h
+stops_before (Limit n) words store h = absurd h
+stops_before ReadFault words store h = absurd h
+stops_before WriteFault words store h = absurd h
+
+-- and so is a refusal
+refused_before : (r : Refusal) (end : End) → end ≡ Refused r → IsBefore (status_of end)
+refused_before r end e = subst (λ (e : End). IsBefore (status_of e)) (sym e) (inl (omega arith, omega arith))
+
+memory_before : (end : End) → end ≡ Memory → IsBefore (status_of end)
+memory_before end e = subst (λ (e : End). IsBefore (status_of e)) (sym e) (inr refl)
+
+text_untouched : (limit : ℕ) (text : List ℕ) (trace out : StreamChange) (end : End) → EndsFor limit text trace out end → (IsBefore (status_of end) → out.after ≡ out.before) →
+    WritesOnlyAfterReading trace.before trace.after out.before out.after
+text_untouched limit text trace out end (inl r) same = after_run r.program limit trace.before out.before trace.after out.after end r.ends
+text_untouched limit text trace out end (inr (inl m)) same = same_now trace.before trace.after out.before out.after (same (memory_before end m))
+text_untouched limit text trace out end (inr (inr (r, is, h))) same = same_now trace.before trace.after out.before out.after (same (refused_before r end is))
+
+pub untouched : (limit : ℕ) (words : List (List ℕ)) (store : StoreChange) (trace out : StreamChange) (end : End) → Ends limit words store trace out end → (IsBefore (status_of end) → out.after ≡ out.before) →
+    WritesOnlyAfterReading trace.before trace.after out.before out.after
+untouched limit words store trace out end (inl s) same = same_now trace.before trace.after out.before out.after (same (stops_before end words store s))
+untouched limit words store trace out end (inr (text, file, h)) same = text_untouched limit text trace out end h.ends same
 
 -- ---- ends before the trace is read
-
-pub usage_stops : (limit : ℕ) (files : Option Files) (words : List (List ℕ)) (old new : ℕ) (trace held left now : Option (List ℕ)) (Kept : Type 0) (end : End) →
-    Ends limit files words old new trace held left now Kept end → status_of end ≡ 2 → file_of words ≡ None
-usage_stops limit files words old new trace held left now Kept end h e = ⊎_elim
-    (λ r. absurd (subst (RunEnds r.program limit trace held left now) (usage_at end e) r.ends))
-    (λ b. subst (λ (e : End). StopsFor e files words old new) (usage_at end e) b.why) h
 
 not_before : (n : ℕ) → (n ≡ 0) ⊎ ((4 ≤ n) × (n ≤ 7)) → IsBefore n → ⊥
 not_before n (inl z) (inl h) = omega (arith, z, h.0)
@@ -209,7 +235,7 @@ not_before n (inr l) (inl h) = omega (arith, l.0, h.1)
 not_before n (inr l) (inr h) = omega (arith, l.1, h)
 
 -- no run over a trace ends with such a status
-runs_after : (p : Program) (limit : ℕ) (trace held left now : Option (List ℕ)) (end : End) → RunEnds p limit trace held left now end → IsBefore (status_of end) → ⊥
+pub runs_after : (p : Program) (limit : ℕ) (trace held left now : Option (List ℕ)) (end : End) → RunEnds p limit trace held left now end → IsBefore (status_of end) → ⊥
 runs_after p limit trace held left now Ended h b = not_before 0 (inl refl) b
 runs_after p limit trace held left now (BadRow line fault) h b = not_before 4 (inr (omega arith, omega arith)) b
 runs_after p limit trace held left now (Limit rows) h b = not_before 5 (inr (omega arith, omega arith)) b
@@ -220,13 +246,12 @@ runs_after p limit trace held left now Usage h b = absurd h
 runs_after p limit trace held left now (File f) h b = absurd h
 runs_after p limit trace held left now Memory h b = absurd h
 
--- the trace and the output are as they were
-pub stopped : (limit : ℕ) (files : Option Files) (words : List (List ℕ)) (old new : ℕ) (trace held left now : Option (List ℕ)) (Kept : Type 0) (end : End) →
-    Ends limit files words old new trace held left now Kept end → IsBefore (status_of end) → Kept
-stopped limit files words old new trace held left now Kept end h b = ⊎_elim
-    (λ r. absurd (runs_after r.program limit trace held left now end r.ends b))
-    (λ s. s.kept) h
-
 -- no run over a trace ends for its words
 pub not_usage : (p : Program) (limit : ℕ) (trace held left now : Option (List ℕ)) (end : End) → RunEnds p limit trace held left now end → end ≡ Usage → ⊥
 not_usage p limit trace held left now end h e = subst (RunEnds p limit trace held left now) e h
+
+-- ---- the line
+
+pub says_line : (end : End) (r : Result (Unit {0}) Failed) (err : StreamChange) → Writes r err.before err.after (line_of end) → OnErr r (Rose err.faults_before err.faults_after) → Says end err
+says_line end (Ok u) err h k = inl h
+says_line end (Err e) err h k = inr (h, k)

@@ -1,15 +1,15 @@
 -- What is made before the trace is first read, and what its turns do.
-use Rattle.std.specs.Prelude.{◌≡◌, ℕ, ◌<◌, ◌≤◌, ◌^◌, false, length, List, [], ◌∷◌, ◌++◌, vec_len, Option, Result, Ok, Err, IfSome}
+use Rattle.std.specs.Prelude.{◌≡◌, ℕ, ◌<◌, ◌≤◌, ◌^◌, false, length, List, [], ◌∷◌, ◌++◌, vec_len, Option, Result, Ok, Err}
 use Rattle.std.specs.Io.KnownBytes.{Appends, Keeps, IsAtEnd}
 use Rattle.hept_ast.specs.declared.tree.Program.{Program}
+use Rattle.ept_reader.specs.Spelling.{IsProgramText}
 use Rattle.step_objects.specs.declared.shape.Values.{Values}
 use Rattle.step_cells.specs.declared.cell.Cell.{Cell}
-use Rattle.hept_io.specs.Outside.{Files}
 use Rattle.hept_io.specs.Lines.{Reading, to_come}
 use Rattle.trace_io.specs.OutputText.{row_line, widest_row, AppendsPart}
 use Rattle.step_cells.specs.Cells.{row_of}
 use Rattle.step_objects.specs.Interfaces.{input_shape, output_shape}
-use Rattle.run_checks.specs.Stops.{IsProgramFile, IsRunnable}
+use Rattle.run_checks.specs.Stops.{IsRunnable}
 use Rattle.plain_stepper.specs.Stepping.{GivesRows, IsReady, Stands, input_count, output_count}
 use Rattle.hepasync_top.specs.Turns.{LosesRows, IsAhead, IsCutOff, NextIsBad, HasNext}
 use Rattle.hepasync_top.specs.declared.machine.Machine.{Machine}
@@ -70,10 +70,10 @@ Turns p number rows outs coming held (Err WriteFault) m left now = (row out : Li
     × LosesRows (input_shape p) coming (row ∷ []) (to_come m.reader left) × (length m.reader.pending ≤ 65536) × AppendsPart held now (row_line (output_shape p) out)
 Turns p number rows outs coming held (Err other) m left now = ⊥
 
--- It has done nothing yet. Where the store tells its files, its program is the one that the words name.
-pub record IsFresh (files : Option Files) (words : List (List ℕ)) (m : Machine) : Type 0 where
+-- It has done nothing yet of a program that the text spells.
+pub record IsFresh (text : List ℕ) (m : Machine) : Type 0 where
   pub can : CanTurn m
   pub pending : m.reader.pending ≡ []
   pub program : Program
-  pub file : IfSome files (λ files. IsProgramFile files words program)
+  pub spelled : IsProgramText text program
   pub done : HasDone program m [] []

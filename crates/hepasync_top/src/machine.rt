@@ -47,9 +47,6 @@ impl Machine {
         let inputs = Shape::of(alloc, program, node.inputs.as_slice())?;
         let outputs = Shape::of(alloc, program, node.outputs.as_slice())?;
         let writer = RowWriter::new(alloc, &outputs)?;
-        if stepper.inputs() > u32::MAX as usize {
-            return Err(Memory);
-        }
         match (
             LineReader::new(alloc),
             vec![in alloc; Cell::Value(0); stepper.inputs()],

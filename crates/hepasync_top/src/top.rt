@@ -1,12 +1,13 @@
 //! The top call.
-ghost use Rattle.std.specs.Prelude.{◌≡◌, ◌≤◌, ◌⊎◌, [], None, ◌↔◌, map, string_bytes, IfOk, IfErr, IfSome, MatchResult, Some, Err};
+ghost use Rattle.std.specs.Prelude.{◌≡◌, ◌<◌, ◌^◌, ◌≤◌, ◌⊎◌, [], None, ◌↔◌, length, map, string_bytes, IfOk, IfErr, MatchResult, Err};
 ghost use Rattle.hept_ast.specs.declared.tree.Program.{Program as AnyProgram};
+ghost use Rattle.ept_reader.specs.Spelling.{IsProgramText};
 ghost use Rattle.hept_io.specs.Outside.{Rose};
 ghost use Rattle.run_messages.specs.Ends.{status_of};
 ghost use Rattle.run_messages.specs.declared.end.Refusal.{Refusal as AnyRefusal};
 ghost use Rattle.hepasync_top.specs.Machine.{HasDone, IsFresh};
-ghost use Rattle.run_checks.specs.Stops.{FileIsRefused, FileIsUnread, IsProgramFile, IsRefused, IsUnforeseen, StopsFor};
-ghost use Rattle.hepasync_top.specs.Run.{ComesTo, Ends, IsBefore, EndsWhole, HasNoneLeft, RefusesAll, RefusesExactly, RunsServed, WritesOnlyAfterReading, WrittenWhereTold};
+ghost use Rattle.run_checks.specs.Stops.{IsRefused, IsRefusedText, IsRunnable, IsUnreadText};
+ghost use Rattle.hepasync_top.specs.Run.{ComesTo, Ends, EndsFor, EndsWhole, IsBefore, IsFileText, RefusesAll, RefusesExactly, RunsServed, StopsFor, WritesOnlyAfterReading, WrittenWhereTold};
 ghost use Rattle.run_checks.specs.Words.{file_of};
 
 use crate::machine::Machine;
@@ -28,27 +29,64 @@ pub struct RunEnd {
     pub status: u8,
 }
 
-/// Makes all that takes memory: nothing does once the trace is read.
-fn prepare<F: Store>(alloc: Global, words: &[String], files: &mut F) -> Result<Machine, End>
-    ensures ready { IfOk result (λ m. IsFresh (F.files files.old) (map string_bytes words.now) m) }
-    ensures ends { IfErr result (λ e. StopsFor e (F.files files.old) (map string_bytes words.now) (F.faults files.old) (F.faults files.new)) }
+/// The bytes of the file that the words name.
+fn text_of<F: Store>(alloc: Global, words: &[String], files: &mut F) -> Result<Vec<u8>, End>
+    ensures text { IfOk result (λ text. IsFileText (F.files files.old) (map string_bytes words.now) text.items) }
+    ensures stops { IfErr result (λ e. StopsFor e (map string_bytes words.now)
+        (record { files = F.files files.old; faults_before = F.faults files.old; faults_after = F.faults files.new })) }
     ensures usage { file_of (map string_bytes words.now) ≡ None → result ≡ Err End.Usage }
-    ensures exactly { IfSome (F.files files.old) (λ files. (r : AnyRefusal) → FileIsUnread r files (map string_bytes words.now) →
-        MatchResult result (λ _. ⊥) (λ e. (e ≡ End.Refused r) ⊎ IsUnforeseen e)) }
-    ensures refused { IfSome (F.files files.old) (λ files. (r : AnyRefusal) → FileIsRefused r (Some files) (map string_bytes words.now) →
-        MatchResult result (λ _. ⊥) (λ e. IsRefused e ⊎ IsUnforeseen e)) }
-    ensures complete { IfSome (F.files files.old) (λ files. (p : AnyProgram) → IsProgramFile files (map string_bytes words.now) p →
-        MatchResult result (λ m. HasDone p m [] []) IsUnforeseen) }
     ensures count { F.faults files.old ≤ F.faults files.new }
 {
-    let Some(name) = file_of(words) else {
-        return Err(End::Usage);
+    match file_of(words) {
+        Some(name) => read_text(alloc, name, files),
+        None => Err(End::Usage),
+    }
+}
+
+/// Makes all that a run of a text takes memory for: nothing does once the trace is read.
+fn prepare(alloc: Global, text: &[u8]) -> Result<Machine, End>
+    requires { length text.now < 2 ^ 32 }
+    ensures ready { IfOk result (λ m. IsFresh text.now m) }
+    ensures ends { IfErr result (λ e. (e ≡ End.Memory) ⊎ ((r : AnyRefusal) × (e ≡ End.Refused r) × IsRefusedText text.now r)) }
+    ensures exactly { (r : AnyRefusal) → IsUnreadText text.now r → MatchResult result (λ _. ⊥) (λ e. (e ≡ End.Refused r) ⊎ (e ≡ End.Memory)) }
+    ensures refused { (r : AnyRefusal) → IsRefusedText text.now r → MatchResult result (λ _. ⊥) (λ e. IsRefused e ⊎ (e ≡ End.Memory)) }
+    ensures complete { (p : AnyProgram) → IsProgramText text.now p → IsRunnable p → MatchResult result (λ m. HasDone p m [] []) (λ e. e ≡ End.Memory) }
+{
+    let accepted = match read_checked(alloc, text) {
+        Ok(accepted) => accepted,
+        Err(end) => return Err(end),
     };
-    let text = read_text(alloc, name, files)?;
-    let accepted = read_checked(alloc, text.as_slice())?;
     match Machine::new(alloc, accepted.program()) {
         Ok(machine) => Ok(machine),
         Err(Memory) => Err(End::Memory),
+    }
+}
+
+/// Runs a text to the end of the trace, or to what stops the run.
+fn run_text<S: Source, K: Sink>(alloc: Global, text: &[u8], trace: &mut S, out: &mut K) -> End
+    requires { length text.now < 2 ^ 32 }
+    ensures ends { EndsFor 4294967294 text.now
+        (record { before = S.left trace.old; after = S.left trace.new; faults_before = S.faults trace.old; faults_after = S.faults trace.new })
+        (record { before = K.held out.old; after = K.held out.new; faults_before = K.faults out.old; faults_after = K.faults out.new }) result }
+    ensures refuses_text { RefusesExactly text.now result }
+    ensures refuses { RefusesAll text.now result }
+    ensures serves { RunsServed 4294967294 text.now
+        (record { before = S.left trace.old; after = S.left trace.new; faults_before = S.faults trace.old; faults_after = S.faults trace.new })
+        (record { before = K.held out.old; after = K.held out.new; faults_before = K.faults out.old; faults_after = K.faults out.new }) result }
+    ensures stopped { IsBefore (status_of result) → (trace.new ≡ trace.old) × (out.new ≡ out.old) }
+    ensures usage { result ≡ End.Usage → ⊥ }
+    ensures read_fault { result ≡ End.ReadFault → Rose (S.faults trace.old) (S.faults trace.new) }
+    ensures write_fault { result ≡ End.WriteFault → Rose (K.faults out.old) (K.faults out.new) }
+    ensures reads { S.faults trace.old ≤ S.faults trace.new }
+    ensures writes { K.faults out.old ≤ K.faults out.new }
+{
+    match prepare(alloc, text) {
+        Ok(machine) => {
+            line_laws();
+            let mut machine = machine;
+            machine.turns(LIMIT, trace, out)
+        }
+        Err(end) => end,
     }
 }
 
@@ -60,25 +98,20 @@ fn run_to_end<F: Store, S: Source, K: Sink>(
     trace: &mut S,
     out: &mut K,
 ) -> End
-    ensures ends { Ends 4294967294 (F.files files.old) (map string_bytes words.now) (F.faults files.old) (F.faults files.new)
-        (S.left trace.old) (K.held out.old) (S.left trace.new) (K.held out.new) ((trace.new ≡ trace.old) × (out.new ≡ out.old)) result }
-    ensures usage { file_of (map string_bytes words.now) ≡ None → result ≡ End.Usage }
-    ensures refuses_text { RefusesExactly (F.files files.old) (map string_bytes words.now) result }
-    ensures refuses { RefusesAll (F.files files.old) (map string_bytes words.now) result }
-    ensures serves { RunsServed 4294967294 (F.files files.old) (map string_bytes words.now)
-        (S.left trace.old) (K.held out.old) (S.left trace.new) (K.held out.new) result }
+    ensures ends { Ends 4294967294 (map string_bytes words.now)
+        (record { files = F.files files.old; faults_before = F.faults files.old; faults_after = F.faults files.new })
+        (record { before = S.left trace.old; after = S.left trace.new; faults_before = S.faults trace.old; faults_after = S.faults trace.new })
+        (record { before = K.held out.old; after = K.held out.new; faults_before = K.faults out.old; faults_after = K.faults out.new }) result }
+    ensures stopped { IsBefore (status_of result) → (trace.new ≡ trace.old) × (out.new ≡ out.old) }
+    ensures usage { (result ≡ End.Usage) ↔ (file_of (map string_bytes words.now) ≡ None) }
     ensures read_fault { result ≡ End.ReadFault → Rose (S.faults trace.old) (S.faults trace.new) }
     ensures write_fault { result ≡ End.WriteFault → Rose (K.faults out.old) (K.faults out.new) }
     ensures files { F.faults files.old ≤ F.faults files.new }
     ensures reads { S.faults trace.old ≤ S.faults trace.new }
     ensures writes { K.faults out.old ≤ K.faults out.new }
 {
-    match prepare(alloc, words, files) {
-        Ok(machine) => {
-            line_laws();
-            let mut machine = machine;
-            machine.turns(LIMIT, trace, out)
-        }
+    match text_of(alloc, words, files) {
+        Ok(text) => run_text(alloc, text.as_slice(), trace, out),
         Err(end) => end,
     }
 }
@@ -98,29 +131,34 @@ pub fn run<R, F: Store, S: Source, K: Sink, E: Sink, G: Gate>(
     gate: &G,
 ) -> RunEnd
     // At the end of the trace every line counted, and the text of the program's outputs on them is written.
-    ensures written { result.status ≡ 0 → WrittenWhereTold (F.files files.old) (map string_bytes words.now) (S.left trace.old) (K.held out.old) (K.held out.new) }
-    ensures all_read { result.status ≡ 0 → HasNoneLeft (S.left trace.old) (S.left trace.new) }
+    ensures written { result.status ≡ 0 → WrittenWhereTold (F.files files.old) (map string_bytes words.now)
+        (S.left trace.old) (S.left trace.new) (K.held out.old) (K.held out.new) }
 
-    // How and why it ends at each status, and the line that says so.
-    ensures ends { ComesTo 4294967294 (F.files files.old) (map string_bytes words.now) (F.faults files.old) (F.faults files.new)
-        (S.left trace.old) (K.held out.old) (S.left trace.new) (K.held out.new) ((trace.new ≡ trace.old) × (out.new ≡ out.old)) (E.held err.old) (E.held err.new) (E.faults err.old) (E.faults err.new) result.status }
+    // How and why it ends at each status, what is written by then, and the line that says so.
+    ensures ends { ComesTo 4294967294 (map string_bytes words.now)
+        (record { files = F.files files.old; faults_before = F.faults files.old; faults_after = F.faults files.new })
+        (record { before = S.left trace.old; after = S.left trace.new; faults_before = S.faults trace.old; faults_after = S.faults trace.new })
+        (record { before = K.held out.old; after = K.held out.new; faults_before = K.faults out.old; faults_after = K.faults out.new })
+        (record { before = E.held err.old; after = E.held err.new; faults_before = E.faults err.old; faults_after = E.faults err.new }) result.status }
     ensures status { result.status ≤ 8 }
-    ensures untouched { WritesOnlyAfterReading (S.left trace.old) (S.left trace.new) (K.held out.old) (K.held out.new) }
     ensures usage { (result.status ≡ 2) ↔ (file_of (map string_bytes words.now) ≡ None) }
     ensures read_fault { result.status ≡ 6 → Rose (S.faults trace.old) (S.faults trace.new) }
     ensures write_fault { result.status ≡ 7 → Rose (K.faults out.old) (K.faults out.new) }
+
+    // A program that is served runs to the end of a trace whose lines all spell rows.
+    ensures complete { EndsWhole 4294967294 (map string_bytes words.now)
+        (record { files = F.files files.old; faults_before = F.faults files.old; faults_after = F.faults files.new })
+        (record { before = S.left trace.old; after = S.left trace.new; faults_before = S.faults trace.old; faults_after = S.faults trace.new })
+        (record { before = K.held out.old; after = K.held out.new; faults_before = K.faults out.old; faults_after = K.faults out.new }) result.status }
+
+    // What is left as it was.
+    ensures untouched { WritesOnlyAfterReading (S.left trace.old) (S.left trace.new) (K.held out.old) (K.held out.new) }
     ensures stopped { IsBefore result.status → (trace.new ≡ trace.old) × (out.new ≡ out.old) }
     ensures quiet { result.status ≡ 0 → err.new ≡ err.old }
 
-    // A program that is served runs to the end of a trace whose lines all spell rows.
-    ensures complete { EndsWhole 4294967294 (F.files files.old) (map string_bytes words.now) (S.left trace.old) result.status
-        (Rose (F.faults files.old) (F.faults files.new) ⊎ (Rose (S.faults trace.old) (S.faults trace.new) ⊎ Rose (K.faults out.old) (K.faults out.new))) }
-
     // No count of faults falls.
-    ensures files { F.faults files.old ≤ F.faults files.new }
-    ensures reads { S.faults trace.old ≤ S.faults trace.new }
-    ensures writes { K.faults out.old ≤ K.faults out.new }
-    ensures says { E.faults err.old ≤ E.faults err.new }
+    ensures counts { (F.faults files.old ≤ F.faults files.new) × (S.faults trace.old ≤ S.faults trace.new)
+        × (K.faults out.old ≤ K.faults out.new) × (E.faults err.old ≤ E.faults err.new) }
 {
     line_laws();
     let end = run_to_end(alloc, words, files, trace, out);

@@ -1,2 +1,3 @@
 pub mod FormsMore
 pub mod Planned
+pub mod Ready

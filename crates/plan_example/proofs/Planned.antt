@@ -56,6 +56,7 @@ sum_has_plan plan h = record {
   future_initial = h.has_future_initial;
   marks = λ k site at. absurd (cc);
   counted = λ k call at. absurd (cc);
+  as_many = ap (λ rs. length rs) h.has_outputs;
   outputs = λ k x at. output k x at;
 }
   where
@@ -130,6 +131,7 @@ chosen_has_plan plan h = record {
   future_initial = h.has_future_initial;
   marks = λ k site at. absurd (cc);
   counted = λ k call at. absurd (cc);
+  as_many = ap (λ rs. length rs) h.has_outputs;
   outputs = λ k x at. output k x at;
 }
   where

@@ -1,6 +1,8 @@
 -- Nodes and their plans.
-use Rattle.std.specs.Prelude.{◌≡◌, ℕ, if◌then◌else◌, true, false, List, [], ◌∷◌, Some, None, codes, pos}
-use Rattle.core_rules.specs.WellFormed.{expr, int_decl, sum_node}
+use Rattle.std.specs.Prelude.{◌≡◌, ℕ, Bool, if◌then◌else◌, true, false, List, [], ◌∷◌, Some, None, codes, length, pos}
+use Rattle.core_rules.specs.WellFormed.{expr, int_decl, sum_core, sum_node}
+use Rattle.node_memory.specs.Standing.{no_calls}
+use Rattle.step_plans.specs.Memories.{IsGroundIn, IsReady}
 use Rattle.hept_ast.specs.Texts.{Name, same}
 use Rattle.hept_ast.specs.Scopes.{Clock, Lowered, Scope, Under}
 use Rattle.hept_ast.specs.Sites.{Site}
@@ -40,6 +42,12 @@ pub record Holds_plan (plan : NodePlan) (inputs : ℕ) (actions : List Action) (
   pub has_offerings : plan.offerings.items ≡ offerings
   pub has_outputs : plan.outputs.items ≡ outputs
 
+-- a plan for so many inputs and outputs, without async calls
+pub record HasShape (inputs outputs : ℕ) (plan : NodePlan) : Type 0 where
+  pub has_inputs : plan.inputs ≡ inputs
+  pub has_outputs : length plan.outputs.items ≡ outputs
+  pub no_offerings : plan.offerings.items ≡ []
+
 abbrev pub var : Name → Expr
 var x = expr (form.Var x)
 
@@ -56,6 +64,10 @@ sum_actions = act.Compute 2 (does.Read 0) ∷ act.Compute 3 (does.Add 1 2) ∷ [
 
 abbrev pub SumHasPlan : Type 0
 SumHasPlan = (plan : NodePlan) → Holds_plan plan 1 sum_actions (keeps.Always 3 ∷ []) (0 ∷ []) [] (3 ∷ []) → IsPlanOf sum_ground [] sum_node plan
+
+-- what an instant of it asks for is there
+abbrev pub SumIsReady : Type 0
+SumIsReady = IsGroundIn sum_core sum_ground × ((calls : List (Bool × List ℕ)) → IsReady sum_core sum_ground [] no_calls calls)
 
 -- ---- a = x when true(c); b = 5; y = merge c (true -> a) (false -> b); n = 0 fby y, restarted by c
 

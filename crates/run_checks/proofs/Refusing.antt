@@ -44,10 +44,6 @@ use Rattle.run_checks.specs.Stops.{HasMain, IsRefused, IsRefusedByReads, by_cloc
 abbrev pub StopsAt : Program → End → Type 0
 StopsAt program e = (e ≡ Memory) ⊎ ((r : Refusal) × (e ≡ Refused r) × IsRefusedProgram program r)
 
--- the same, where none of its faults stands
-abbrev pub StopsClean : Program → End → Type 0
-StopsClean program e = (e ≡ Memory) ⊎ ((r : Refusal) × (e ≡ Refused r) × (all_faults program ≡ [] → IsRefusedProgram program r))
-
 no_first : (fs : List Fault) (f : Fault) → fs ≡ [] → IsFirst fs f → ⊥
 no_first [] f e h = absurd (omega (arith, h.stands.1))
 no_first (x ∷ fs) f e h = absurd cc
@@ -99,9 +95,9 @@ types_end p (typing.NestedAsync at) e h is = inr (_, is, by_types (typing.Nested
 types_end p (typing.Limit at kept limit) e h is = inr (_, is, by_types (typing.Limit at kept limit) h refl)
 types_end p typing.Memory e h is = inl is
 
-pub choice_end : (p : Program) (t : TopFault) (e : End) → IsTopFault p.nodes None t → e ≡ end_of_choice t → StopsClean p e
-choice_end p choosing.NoNode e h is = inr (_, is, λ clean. by_choice choosing.NoNode clean h refl)
-choice_end p (choosing.FutureInterface at) e h is = inr (_, is, λ clean. by_choice (choosing.FutureInterface at) clean h refl)
+pub choice_end : (p : Program) (t : TopFault) (e : End) → all_faults p ≡ [] → IsTopFault p.nodes None t → e ≡ end_of_choice t → (r : Refusal) × (e ≡ Refused r) × IsRefusedProgram p r
+choice_end p choosing.NoNode e clean h is = (_, is, by_choice choosing.NoNode clean h refl)
+choice_end p (choosing.FutureInterface at) e clean h is = (_, is, by_choice (choosing.FutureInterface at) clean h refl)
 
 -- a well-typed program ends so for its clocks and reads
 abbrev pub StopsByReads : Program → End → Type 0
@@ -129,10 +125,8 @@ is_sound p c same least h = record {
   causal = subst (λ (x : Program). IsCausal x (clock_in c.clocks)) same h.causal;
 }
 
-pub main_stops : (p q : Program) (e : End) → q ≡ p → all_faults p ≡ [] → StopsClean q e → StopsAt p e
-main_stops p q e same clean (inl h) = inl h
-main_stops p q e same clean (inr (r, is, h)) =
-    inr (r, is, subst (λ (x : Program). IsRefusedProgram x r) same (h (subst (λ (x : Program). all_faults x ≡ []) (sym same) clean)))
+pub main_stops : (p q : Program) (e : End) → q ≡ p → (r : Refusal) × (e ≡ Refused r) × IsRefusedProgram q r → StopsAt p e
+main_stops p q e same (r, is, h) = inr (r, is, subst (λ (x : Program). IsRefusedProgram x r) same h)
 
 pub reads_stop : (p q : Program) (e : End) → q ≡ p → all_faults p ≡ [] → HasMain q → StopsByReads q e → StopsAt p e
 reads_stop p q e same clean main (inl h) = inl h

@@ -1,12 +1,12 @@
--- Why a run ends before its trace is first read.
-use Rattle.std.specs.Prelude.{◌≡◌, ℕ, List, [], Option, None, Some, IfSome, ⊤, ◌⊎◌}
+-- Why a file isn't read, and why a text isn't run.
+use Rattle.std.specs.Prelude.{◌≡◌, ℕ, List, [], Option, None, IfSome, ⊤, ◌⊎◌}
 use Rattle.hept_ast.specs.declared.tree.Program.{Program}
 use Rattle.ept_reader.specs.declared.reader.ReadFault.{ReadFault}
 use Rattle.ept_reader.specs.declared.reader.ReadFault.TheVariants as reading
 use Rattle.ept_reader.specs.Spelling.{IsProgramText, IsRefusalOf}
-use Rattle.hept_io.specs.Outside.{Files, Rose, HasFile, IsLarge, HasNone}
+use Rattle.hept_io.specs.Outside.{Files, Rose, IsLarge, HasNone}
 use Rattle.run_messages.specs.declared.end.End.{End}
-use Rattle.run_messages.specs.declared.end.End.TheVariants.{Refused, Usage, File, Memory}
+use Rattle.run_messages.specs.declared.end.End.TheVariants.{Refused, Memory}
 use Rattle.run_messages.specs.declared.end.FileFault.{FileFault}
 use Rattle.run_messages.specs.declared.end.FileFault.TheVariants.{Failed, TooLarge, Missing}
 use Rattle.run_messages.specs.declared.end.Refusal.{Refusal}
@@ -32,7 +32,6 @@ use Rattle.hept_ast.specs.Stages.{HasLeastClocks}
 use Rattle.hept_ast.specs.Texts.{Name}
 use Rattle.hept_ast.specs.declared.name.Place.{Place}
 use Rattle.plain_stepper.specs.Served.{IsServed}
-use Rattle.run_checks.specs.Words.{file_of}
 
 -- ---- files
 
@@ -41,12 +40,6 @@ abbrev pub IsNotRead : FileFault → Option Files → (old new : ℕ) → List �
 IsNotRead Failed files old new name = Rose old new
 IsNotRead TooLarge files old new name = IfSome files (λ map. IsLarge map name)
 IsNotRead Missing files old new name = HasNone files name
-
--- the words name a file, and it isn't read
-pub record FileIsNotRead (fault : FileFault) (files : Option Files) (words : List (List ℕ)) (old new : ℕ) : Type 0 where
-  pub name : List ℕ
-  pub named : file_of words ≡ Some name
-  pub cause : IsNotRead fault files old new name
 
 -- ---- texts
 
@@ -126,47 +119,6 @@ IsUnreadText bytes r = (f : ReadFault) × IsRefusalOf bytes f × (end_of_text f 
 -- The bytes are no text of a program, or that of one that isn't run.
 abbrev pub IsRefusedText : List ℕ → Refusal → Type 0
 IsRefusedText bytes r = IsUnreadText bytes r ⊎ ((p : Program) × IsProgramText bytes p × IsRefusedProgram p r)
-
--- The words name a file, and its bytes are the text of a program that can be run.
-pub record IsProgramFile (files : Files) (words : List (List ℕ)) (p : Program) : Type 0 where
-  pub name : List ℕ
-  pub named : file_of words ≡ Some name
-  pub bytes : List ℕ
-  pub file : HasFile files name bytes
-  pub text : IsProgramText bytes p
-  pub runs : IsRunnable p
-
--- The words name a file of the store, and its bytes are no text of a program.
-pub record FileIsUnread (refusal : Refusal) (files : Files) (words : List (List ℕ)) : Type 0 where
-  pub name : List ℕ
-  pub named : file_of words ≡ Some name
-  pub bytes : List ℕ
-  pub file : HasFile files name bytes
-  pub unread : IsUnreadText bytes refusal
-
--- The words name a file, and its bytes were read and are refused.
-pub record FileIsRefused (refusal : Refusal) (files : Option Files) (words : List (List ℕ)) : Type 0 where
-  pub name : List ℕ
-  pub named : file_of words ≡ Some name
-  pub bytes : List ℕ
-  pub file : IfSome files (λ files. HasFile files name bytes)
-  pub refused : IsRefusedText bytes refusal
-
--- ---- ends
-
--- why a run ends so before the trace is first read
-abbrev pub StopsFor : End → Option Files → (words : List (List ℕ)) → (old new : ℕ) → Type 0
-StopsFor (Refused refusal) files words old new = FileIsRefused refusal files words
-StopsFor Usage files words old new = file_of words ≡ None
-StopsFor (File fault) files words old new = FileIsNotRead fault files words old new
-StopsFor Memory files words old new = ⊤
-StopsFor other files words old new = ⊥
-
--- the ends that no text and no words are the cause of
-abbrev pub IsUnforeseen : End → Type 0
-IsUnforeseen (File fault) = ⊤
-IsUnforeseen Memory = ⊤
-IsUnforeseen other = ⊥
 
 abbrev pub IsRefused : End → Type 0
 IsRefused (Refused refusal) = ⊤

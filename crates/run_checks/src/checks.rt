@@ -86,14 +86,11 @@ fn end_of_acceptance(fault: AcceptFault) -> End
 
 /// Whether a program has a node to run.
 fn check_main(typed: &Typed) -> Result<(), End>
+    requires { all_faults typed.now ≡ [] }
+    ensures few { length typed.now.nodes < 2 ^ 32 }
     ensures main { OnOk result (HasMain typed.now) }
-    ensures few { OnOk result (length typed.now.nodes < 2 ^ 32) }
-    ensures ends { IfErr result (λ e. (e ≡ End.Memory) ⊎ ((r : AnyRefusal) × (e ≡ End.Refused r) × (all_faults typed.now ≡ [] → IsRefusedProgram typed.now r))) }
+    ensures ends { IfErr result (λ e. (r : AnyRefusal) × (e ≡ End.Refused r) × IsRefusedProgram typed.now r) }
 {
-    // A program within the limits has fewer nodes by far.
-    if typed.program().nodes.len() > u32::MAX as usize {
-        return Err(End::Memory);
-    }
     match choose(typed, None) {
         Ok(_) => Ok(()),
         Err(fault) => Err(end_of_choice(fault)),

@@ -2,6 +2,8 @@
 #![tactic(auto)]
 
 #[cfg(test)]
+mod depth;
+#[cfg(test)]
 mod devices;
 #[cfg(test)]
 mod expected;
@@ -12,7 +14,9 @@ mod outputs;
 mod refusals;
 #[cfg(test)]
 mod rows;
+mod silent;
 #[cfg(test)]
 mod turns;
 
 pub use outcome::{Failing, NONE, Outcome, outcome_of};
+pub use silent::silent_outcome;

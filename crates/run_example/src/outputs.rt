@@ -1,9 +1,18 @@
-use crate::expected::{DELAYED_SUM, writes};
+use crate::expected::{DELAYED_SUM, expect_outcome, writes};
+use crate::silent_outcome;
 use std::test::Fail;
 
 #[test]
 fn delayed_sum(rt: HostRuntime) -> Result<(), Fail> {
     writes(&rt, rt.alloc(), DELAYED_SUM, b"1\n2\n3\n", b"0\n1\n3\n")
+}
+
+// A store that tells no files gives the same rows.
+#[test]
+fn silent_store(rt: HostRuntime) -> Result<(), Fail> {
+    let outcome = silent_outcome(rt.alloc(), DELAYED_SUM, b"1\n2\n3\n")?;
+    expect_outcome(&rt, outcome, 0, b"0\n1\n3\n", b"");
+    Ok(())
 }
 
 #[test]

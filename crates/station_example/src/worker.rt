@@ -90,16 +90,23 @@ pub fn do_one<R: Wait>(rt: &R, station: &Sums, server: &mut SumServer, instance:
     }
 }
 
-/// A standing worker: it does calls of both instances, and ends when the station is closed and it finds none.
+/// A standing worker of both instances: each call of instance 1 has a future of one of instance 0, so it takes no more of these than it did of those (it would wait for itself), and it ends when the station is closed and it finds none.
 pub fn stand<R: Wait>(rt: &R, station: &Sums, mut server: SumServer) -> SumServer
     requires server { IsSeatOf station.now server.seat × IsServer server.seat × IsIdle server.seat }
     requires instances { TakesOne station.now.layout 0 × TakesOne station.now.layout 1 × (0 < station.now.layout.components) }
     ensures { (result.seat.table_id ≡ server.seat.table_id) × (result.seat.me.0.layout ≡ server.seat.me.0.layout) × IsServer result.seat × IsIdle result.seat × (result.seat.me.0.closed ≡ 1) }
 {
+    let mut ahead: u64 = 0;
     for _ in rt.forever() {
         let closed = station.closed(&mut server);
         let first = do_one(rt, station, &mut server, 0);
-        let second = do_one(rt, station, &mut server, 1);
+        if first {
+            ahead = ahead.saturating_add(1);
+        }
+        let second = ahead > 0 && do_one(rt, station, &mut server, 1);
+        if second {
+            ahead -= 1;
+        }
         if !first && !second {
             if closed {
                 return server;

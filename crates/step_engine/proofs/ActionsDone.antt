@@ -1,5 +1,5 @@
 -- Actions, one after another.
-use Rattle.std.proofs.Common.{◌≡◌, ◌≢◌, ℕ, zero, suc, ◌+◌, ◌<◌, ◌≤◌, Bool, true, false, List, [], ◌∷◌, Option, Some, None, All, drop, eqb, set, get_or, length, inl, inr, refl, sym, subst, ap, ◌∙◌, arith, get_or-set_same, get_or-set_other, length-set}
+use Rattle.std.proofs.Common.{◌≡◌, ◌≢◌, ℕ, zero, suc, ◌+◌, ◌<◌, ◌≤◌, Bool, true, false, List, [], ◌∷◌, Option, Some, None, All, drop, eqb, set, get_or, length, refl, sym, subst, ap, ◌∙◌, arith, get_or-set_same, get_or-set_other, length-set}
 use Rattle.std.proofs.Math.Seq.{drop-cons}
 use Rattle.std.proofs.lemmas.List.{drop_all}
 use Rattle.std.proofs.lemmas.Bool.Decides.{Decides-eqb}
@@ -9,7 +9,7 @@ use Rattle.std.specs.List.{Contains}
 use Rattle.step_cells.specs.declared.cell.Cell.{Cell}
 use Rattle.step_cells.specs.declared.cell.Cell.TheVariants as cell
 use Rattle.step_cells.specs.declared.cell.Handle.{Handle}
-use Rattle.step_plans.specs.Books.{Made, Book, IsOf, Grows, IsOffered, IsSameBook, IsCellOf, of_output, worth}
+use Rattle.step_plans.specs.Books.{Made, Book, Grows, IsOffered, IsSameBook, IsCellOf, worth}
 use Rattle.step_plans.specs.Operations.{no_future}
 use Rattle.step_plans.specs.declared.instruction.FutureInstruction.{FutureInstruction}
 use Rattle.step_plans.specs.declared.instruction.FutureInstruction.TheVariants as moving
@@ -18,9 +18,9 @@ use Rattle.step_plans.specs.declared.action.Action.TheVariants as act
 use Rattle.step_plans.specs.declared.action.Offering.{Offering}
 use Rattle.std.proofs.lemmas.Option.{slice_get-get_or}
 use Rattle.step_plans.specs.declared.instruction.Instruction.{Instruction}
-use Rattle.step_engine.specs.Running.{given, moved, future_at, IsFutureWithin}
+use Rattle.step_engine.specs.Running.{given, moved, IsFutureWithin}
 use Rattle.step_engine.specs.Actions.{State, IsDone, IsOfferedAt, IsNotOffered, IsActionWithin, IsOfferingWithin, IsOwned, IsStep, AreDone, nothing, done, future_of, with_futures, input_of, reset_of}
-use Rattle.step_engine.proofs.Passing.{is_of_later, is_one, offered_grows, same_book_grows, with_futures_length}
+use Rattle.step_engine.proofs.Passing.{is_of_later, offered_grows}
 
 -- the actions from here on begin with the one here
 pub done_from : (offerings : List Offering) (cells marks : List ℕ) (all : List Action) (i : ℕ) (a d : Action) (s u v : State) → i < length all → a ≡ get_or all i d → IsStep offerings cells marks a s u →
@@ -41,7 +41,7 @@ cell_of_later b later (cell.Value v) g h = tt
 cell_of_later b later (cell.Ready v) g h = tt
 cell_of_later b later (cell.Held k) g h = is_of_later b later k g h
 
-cells_of_later : (b later : Book) (futures : List Cell) → Grows b later → All (IsCellOf b) futures → All (IsCellOf later) futures
+pub cells_of_later : (b later : Book) (futures : List Cell) → Grows b later → All (IsCellOf b) futures → All (IsCellOf later) futures
 cells_of_later b later futures g h = λ k d lt. cell_of_later b later (slice_index_or futures k d) g (h k d lt)
 
 pub owned_later : (offerings : List Offering) (b later : Book) (futures : List Cell) → Grows b later → IsOwned offerings b futures → IsOwned offerings later futures

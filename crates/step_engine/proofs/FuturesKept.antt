@@ -1,5 +1,5 @@
 -- Futures of inputs, and cells of future type.
-use Rattle.std.proofs.Common.{◌≡◌, ◌≢◌, ℕ, zero, suc, ◌+◌, ◌<◌, ◌≤◌, Bool, true, false, List, Some, All, eqb, set, get_or, length, refl, sym, subst, ap, ◌∙◌, arith, get_or-set_same, get_or-set_other}
+use Rattle.std.proofs.Common.{◌≡◌, ◌≢◌, ℕ, ◌+◌, ◌<◌, ◌≤◌, Bool, true, false, List, Some, All, eqb, set, get_or, length, refl, sym, subst, ap, ◌∙◌, arith, get_or-set_same, get_or-set_other}
 use Rattle.std.specs.Prelude.{if◌then◌else◌, ◌==◌, slice_get, slice_index}
 use Rattle.std.proofs.lemmas.Bool.Decides.{Decides-eqb}
 use Rattle.std.proofs.lemmas.Option.{get_or_from_slice_get}
@@ -11,7 +11,7 @@ use Rattle.step_plans.specs.declared.instruction.Store.{Store}
 use Rattle.step_plans.specs.declared.instruction.Store.TheVariants as keeps
 use Rattle.step_engine.specs.Running.{future_at}
 use Rattle.step_engine.specs.Actions.{stored_future, IsFutureStoreWithin}
-use Rattle.step_engine.proofs.ActionsDone.{same_get, cells_set}
+use Rattle.step_engine.proofs.ActionsDone.{same_get}
 
 pub no_handle_of : (book : Book) (c : Cell) → IsNoHandle c → IsCellOf book c
 no_handle_of book (cell.Value v) h = tt

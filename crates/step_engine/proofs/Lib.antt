@@ -2,3 +2,4 @@ pub mod Passing
 pub mod ActionsDone
 pub mod FuturesKept
 pub mod WholeInstant
+pub mod CallsOfBook

@@ -20,12 +20,12 @@ use Rattle.step_cells.specs.declared.cell.Cell.{Cell}
 use Rattle.step_cells.specs.declared.cell.Cell.TheVariants as cell
 use Rattle.step_cells.specs.declared.cell.Handle.{Handle}
 use Rattle.step_plans.specs.Kept.{Counted}
-use Rattle.step_plans.specs.Things.{Thing, Memory, Here, Part, Result, HasAnswer, IsAgain, IsBegun, Holds}
+use Rattle.step_plans.specs.Things.{Thing, Memory, Here, Part, HasAnswer, IsAgain, IsBegun, Holds}
 use Rattle.step_plans.specs.Books.{Made, Book, IsOf, Grows, IsOffered, IsSameBook, IsCellOf, worth, of_instance, of_output}
 use Rattle.step_plans.specs.Operations.{Register, In_values, In_futures, look, outcome, operation_of, future_operation_of, no_future, cell_of, register_of}
-use Rattle.step_plans.specs.Plans.{Ground, Entry, At, Has, newest, older, memory_at, Makes, Means, AreSources, Offers_site, with_results, IsEarlier, is_among, Progress, Does, computes, moves, offers, gets, Knows_more, known, MakesAll, made, action, also}
+use Rattle.step_plans.specs.Plans.{Ground, Entry, At, Has, newest, older, memory_at, AreSources, Offers_site, with_results, IsEarlier, is_among, Progress, Does, computes, moves, offers, gets, Knows_more, known, MakesAll, made, action, also}
 use Rattle.step_plans.specs.Sending.{AgreesWith, IsMade, HaveAnswers, Did, did_call, did_nothing}
-use Rattle.step_plans.specs.Instants.{Known, HoldsAll, Begins}
+use Rattle.step_plans.specs.Instants.{Known, HoldsAll}
 use Rattle.step_plans.specs.declared.instruction.Instruction.{Instruction}
 use Rattle.step_plans.specs.declared.instruction.Instruction.TheVariants as does
 use Rattle.step_plans.specs.declared.instruction.FutureInstruction.{FutureInstruction}
@@ -38,7 +38,7 @@ use Rattle.step_plans.specs.declared.action.Offering.{Offering}
 use Rattle.step_plans.proofs.Frames.{K, Comes, by_form, comes_by, comes_counted, where_present}
 use Rattle.step_plans.proofs.Making.{makes_thing, means_thing}
 use Rattle.step_engine.specs.Running.{given, moved, future_at}
-use Rattle.step_engine.specs.Actions.{State, IsDone, HasValue, HasFuture, IsGot, IsOfferedAt, IsNotOffered, IsOwned, IsOfferingWithin, IsActionWithin, IsStep, AreDone, nothing, done, future_of, with_futures, input_of, reset_of}
+use Rattle.step_engine.specs.Actions.{State, IsDone, IsGot, IsOfferedAt, IsOfferingWithin, IsActionWithin, IsStep, AreDone, nothing, done, future_of, with_futures, input_of, reset_of}
 
 -- ---- numbers
 

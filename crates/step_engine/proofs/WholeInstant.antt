@@ -1,9 +1,8 @@
 -- A whole instant of a node by its plan.
-use Rattle.std.proofs.Common.{◌≡◌, ℕ, zero, suc, ◌+◌, ◌<◌, ◌≤◌, Bool, true, false, List, [], ◌∷◌, length, map, All, Some, refl, sym, subst, ap, ◌∙◌, arith}
+use Rattle.std.proofs.Common.{◌≡◌, ℕ, zero, suc, ◌+◌, ◌<◌, true, List, [], ◌∷◌, length, map, All, Some, refl, sym, subst, ap, ◌∙◌, arith}
 use Rattle.std.specs.Prelude.{if◌then◌else◌, ◌==◌, slice_get, slice_index, slice_index_or, EachIndex}
 use Rattle.std.proofs.lemmas.Option.{slice_get_within}
 use Rattle.hept_ast.specs.Values.{truth}
-use Rattle.hept_ast.specs.Texts.{Name}
 use Rattle.hept_ast.specs.Scopes.{Lowered}
 use Rattle.hept_ast.specs.Meaning.{Present, Variable, Is}
 use Rattle.hept_ast.specs.Sites.{Site}
@@ -13,11 +12,10 @@ use Rattle.step_cells.specs.declared.cell.Cell.{Cell}
 use Rattle.step_cells.specs.declared.cell.Cell.TheVariants as cell
 use Rattle.step_cells.specs.declared.cell.Handle.{Handle}
 use Rattle.step_plans.specs.Things.{Here, Named, Memory, HasAnswer, IsBegun, IsKept}
-use Rattle.step_plans.specs.Books.{Book, IsNoHandle, worth}
+use Rattle.step_plans.specs.Books.{IsNoHandle, worth}
 use Rattle.step_plans.specs.Operations.{Register, In_values, In_futures, look, among, stored, storing_of, future_storing_of, no_future}
-use Rattle.step_plans.specs.Plans.{Ground, Has, newest, memory_at, Calling, Calls, IsPlanOf, start_of, top_of, at_start}
-use Rattle.step_plans.specs.Sending.{next_mark}
-use Rattle.step_plans.specs.Instants.{Known, HoldsAll, Kept_state, IsCounted, IsServed, Begins, Ends, Stands, ServesInstant}
+use Rattle.step_plans.specs.Plans.{newest, memory_at, Calling, Calls, start_of, top_of, at_start}
+use Rattle.step_plans.specs.Instants.{Known, HoldsAll, Kept_state, IsCounted, IsServed, ServesInstant}
 use Rattle.step_plans.specs.declared.instruction.Store.{Store}
 use Rattle.step_plans.specs.declared.instruction.Store.TheVariants as keeps
 use Rattle.step_plans.specs.declared.plan.NodePlan.{NodePlan}

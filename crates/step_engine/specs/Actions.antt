@@ -10,7 +10,7 @@ use Rattle.step_plans.specs.declared.instruction.Store.TheVariants as keeps
 use Rattle.step_plans.specs.declared.action.Action.{Action}
 use Rattle.step_plans.specs.declared.action.Action.TheVariants as act
 use Rattle.step_plans.specs.declared.action.Offering.{Offering}
-use Rattle.step_engine.specs.Running.{given, moved, future_at, IsWithin, IsFutureWithin, IsSourceWithin, IsStoreWithin}
+use Rattle.step_engine.specs.Running.{given, moved, future_at, IsWithin, IsFutureWithin, IsSourceWithin}
 
 -- values and futures, and the book
 pub record State : Type 0 where

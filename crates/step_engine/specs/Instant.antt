@@ -1,5 +1,7 @@
--- One instant by the plan of a node: what the plan names is there, and what becomes of marks.
-use Rattle.std.specs.Prelude.{◌≡◌, ℕ, suc, ◌+◌, ◌<◌, ◌≤◌, List, All, Some, length, slice_get, slice_index}
+-- One instant by the plan of a node: what the plan names is there, and what becomes of marks and of the calls of a book.
+use Rattle.std.specs.Prelude.{◌≡◌, ℕ, suc, ◌+◌, ◌<◌, ◌≤◌, List, [], All, Some, length, slice_get, slice_index}
+use Rattle.step_plans.specs.Books.{Book, Grows}
+use Rattle.step_plans.specs.Memories.{AllOwn}
 use Rattle.step_plans.specs.Sending.{next_mark}
 use Rattle.step_plans.specs.declared.action.Offering.{Offering}
 use Rattle.step_plans.specs.declared.plan.NodePlan.{NodePlan}
@@ -8,6 +10,12 @@ use Rattle.step_engine.specs.Actions.{IsActionWithin, IsOfferingWithin, IsFuture
 
 abbrev pub AreMarked : List Offering → (values old new : List ℕ) → Type 0
 AreMarked offerings values old new = (k : ℕ) (o : Offering) → slice_get offerings k ≡ Some o → slice_index new k ≡ next_mark (slice_index values o.here) (slice_index values o.again) (slice_index old k)
+
+-- the calls of a later book: their inputs hold no handle but those of the book, and a node without async calls makes none
+pub record CallsGoOn (offerings : List Offering) (book later : Book) : Type 0 where
+  pub grows : Grows book later
+  pub own : AllOwn book book.calls → AllOwn later later.calls
+  pub none : offerings ≡ [] → later.calls ≡ book.calls
 
 abbrev pub IsMarkWithin : ℕ → Offering → Type 0
 IsMarkWithin n o = (o.here < n) × (o.again < n)

@@ -3,7 +3,7 @@ ghost use Rattle.step_cells.specs.Cells.{value_in};
 ghost use Rattle.step_plans.specs.Books.{Book, IsNoHandle};
 ghost use Rattle.step_plans.specs.Instants.{ServesInstant};
 ghost use Rattle.step_engine.specs.Actions.{IsOwned, TakesAll};
-ghost use Rattle.step_engine.specs.Instant.{IsRunnable};
+ghost use Rattle.step_engine.specs.Instant.{CallsGoOn, IsRunnable};
 
 use crate::acting::serve;
 use crate::offers::Offers;
@@ -27,7 +27,7 @@ pub fn serve_instant<C: Offers>(
     requires no_handles { All IsNoHandle inputs.now }
     requires book { (book : Book) × C.stands calls.old book × IsOwned plan.now.offerings.items book futures.old }
     requires takes { TakesAll C.stands C.takes plan.now.offerings.items }
-    ensures { (book : Book) → C.stands calls.old book → IsOwned plan.now.offerings.items book futures.old → (later : Book) × C.stands calls.new later × IsOwned plan.now.offerings.items later futures.new ×
+    ensures { (book : Book) → C.stands calls.old book → IsOwned plan.now.offerings.items book futures.old → (later : Book) × C.stands calls.new later × IsOwned plan.now.offerings.items later futures.new × CallsGoOn plan.now.offerings.items book later ×
         ServesInstant plan.now inputs.now (map value_in outputs.new) (record { cells = cells.old; futures = futures.old; marks = marks.old }) (record { cells = cells.new; futures = futures.new; marks = marks.new }) book later }
 {
     put(inputs, values);

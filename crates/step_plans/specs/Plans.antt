@@ -275,6 +275,7 @@ pub record IsPlanOf (g : Ground) (sites : List Site) (node : CoreNode) (plan : N
   pub future_initial : plan.future_initial.items ≡ map initial_of g.future_memories
   pub marks : (k : ℕ) (site : Site) → slice_get sites k ≡ Some site → (o : Offering) × (slice_get plan.offerings.items k ≡ Some o) × Has last.entries (Here site.clock site.scope) (In_values o.here) × Has last.entries (Again site.scope) (In_values o.again)
   pub counted : (k : ℕ) (call : Calling) → slice_get g.calls k ≡ Some call → IsCalled last.entries call
+  pub as_many : length plan.outputs.items ≡ length node.outputs
   pub outputs : (k : ℕ) (x : Name) → slice_get (names node.outputs) k ≡ Some x → (r : ℕ) × (slice_get plan.outputs.items k ≡ Some r) × Has last.entries (Named x (top_of node)) (In_values r)
 
 -- ---- building: one step more at the end

@@ -1,30 +1,193 @@
-use Rattle.std.proofs.Common.{refl, sym, ap, append-nil, arith, length, ◌∙◌}
+use Rattle.std.proofs.Common.{◌≡◌, ◌+◌, suc, None, Some, refl, sym, ap, append-nil, arith, length, ◌∙◌}
 use Rattle.hept_ast.specs.declared.tree.Form.TheVariants as form
 use Rattle.hept_ast.specs.declared.tree.Const.TheVariants as const
 use Rattle.hept_ast.specs.declared.tree.UnaryOp.TheVariants as unary
-use Rattle.ept_grammar.specs.Grammar.{here, there, at, named, negated, sampled}
-use Rattle.ept_grammar.proofs.Steps.{placed, passed_on, when_true, when_false, nest, same_gives, at_exit, begun_word, begun_first, begun_sole, begun_empty, fails_over, fails_part, fails_word, past, past_part, past_word}
-use Rattle.ept_grammar.proofs.Words.{arrow_tail_first, fby_tail_first, call_tail_first, more_args_first, merge_branches_first, expression_front, signed_front, atom_front, async_tail_front, prefix_signed, after_minus_signed, args_begun, prefix_atom, after_minus_atom, samples_begun, samples_first, args_first, called_begins, merge_branch_begins}
+use Rattle.ept_grammar.specs.declared.parts.Fault.TheVariants.{TooDeep}
+use Rattle.ept_grammar.specs.Grammar.{Sampled, here, there, at, named, negated}
+use Rattle.ept_grammar.specs.Reading.{Reads}
+use Rattle.ept_grammar.proofs.Steps.{placed, passed_on, nest, same_gives, at_exit, begun_word, begun_first, begun_sole, begun_empty, fails_over, fails_part, fails_word, past, past_part, past_word}
+use Rattle.ept_grammar.proofs.Words.{arrow_tail_first, fby_tail_first, call_tail_first, more_args_first, merge_branches_first, expression_front, signed_front, atom_front, async_tail_front, prefix_signed, after_minus_signed, args_begun, prefix_atom, after_minus_atom, args_first, called_begins, merge_branch_begins}
 use Rattle.ept_steps.proofs.Lists.{one_more, first_one}
-use Rattle.ept_expressions.proofs.Levels.{level_last, level_more, signs_begun, signs_over}
+use Rattle.ept_expressions.proofs.Levels.{level_begun, level_ends, level_fails, level_more, level_over}
 use Rattle.std.proofs.Common.{inl, inr}
 use Rattle.ept_expressions.proofs.expressions.+exprs.Goals as goal
 
-pub expression-returns-in-None-clause-reads : goal.expression-returns-in-None-clause-reads
-expression-returns-in-None-clause-reads t c =
-    passed_on c.arrows.result c.arrows.ensures.reads (λ x d. past_part (begun_first refl refl (expression_front _ c.in-None.ensures)) d) (λ e d. fails_part (begun_first refl refl (expression_front _ c.in-None.ensures)) e d)
+pub expression-returns-in-Some-clause-reads : goal.expression-returns-in-Some-clause-reads
+expression-returns-in-Some-clause-reads t c =
+    rw c.in-Some.ensures.0 c.conditional.ensures.reads
 
-pub expression-returns-in_err-counts-in-Some-clause-reads : goal.expression-returns-in_err-counts-in-Some-clause-reads
-expression-returns-in_err-counts-in-Some-clause-reads t c =
-    at_exit _ _ _ c.in_err-counts-in-Some.field-0.0 c.from_residual.ensures.1 (fails_over (begun_word (there here) refl c.in-Some.ensures) c.in-Some.ensures c.in_err-counts-in-Some.ensures)
+pub expression-returns-in_err-left-clause-reads : goal.expression-returns-in_err-left-clause-reads
+expression-returns-in_err-left-clause-reads t c =
+    at_exit _ _ _ c.in_err-left.field-0.0 c.from_residual.ensures.1 (fails_part (begun_first refl refl (expression_front _ c.in_default.ensures)) _ (fails_part (begun_sole _ refl) _ c.in_err-left.ensures.reads))
 
-pub expression-returns-in_err-form-in-Some-clause-reads : goal.expression-returns-in_err-form-in-Some-clause-reads
-expression-returns-in_err-form-in-Some-clause-reads t c =
-    at_exit _ _ _ c.in_err-form-in-Some.field-0.0 c.from_residual-in_err-form-in-Some.ensures.1 (fails_part (past (begun_word (there here) refl c.in-Some.ensures) c.in-Some.ensures c.in_ok-counts-in-Some.ensures) _ c.in_err-form-in-Some.ensures.reads)
+pub expression-returns-clause-reads : goal.expression-returns-clause-reads
+expression-returns-clause-reads t c =
+    passed_on c.arrow_tail.result c.arrow_tail.ensures.reads (λ x d. rw d.2 (past_part (begun_first refl refl (expression_front _ c.in_default.ensures)) (past_part (past_part (begun_sole _ refl) c.in_ok-left.ensures.reads) d.1))) (λ e d. fails_part (begun_first refl refl (expression_front _ c.in_default.ensures)) e (fails_part (past_part (begun_sole _ refl) c.in_ok-left.ensures.reads) e d))
 
-pub expression-returns-in_ok-form-in-Some-clause-reads : goal.expression-returns-in_ok-form-in-Some-clause-reads
-expression-returns-in_ok-form-in-Some-clause-reads t c =
-    placed (λ p. at p c.in_ok-form-in-Some.form) _ c.in-Some.ensures c.placed.ensures (past_part (past (begun_word (there here) refl c.in-Some.ensures) c.in-Some.ensures c.in_ok-counts-in-Some.ensures) c.in_ok-form-in-Some.ensures.reads)
+pub conditional-returns-in_err-counts-clause-reads : goal.conditional-returns-in_err-counts-clause-reads
+conditional-returns-in_err-counts-clause-reads t c =
+    let one : 1 + length c.args.tokens.now ≡ suc (length c.args.tokens.now) = omega arith in
+    at_exit _ _ _ c.in_err-counts.field-0.0 c.from_residual.ensures.1 (fails_over (begun_word (there here) refl (refl, c.requires)) (refl, c.requires) (c.in_err-counts.ensures.0, c.in_err-counts.ensures.1 ∙ ap (λ n. TooDeep n) one))
+
+pub conditional-returns-in_err-form-clause-reads : goal.conditional-returns-in_err-form-clause-reads
+conditional-returns-in_err-form-clause-reads t c =
+    at_exit _ _ _ c.in_err-form.field-0.0 c.from_residual-in_err-form.ensures.1 (fails_part (past (begun_word (there here) refl (refl, c.requires)) (refl, c.requires) c.in_ok-counts.ensures) _ c.in_err-form.ensures.reads)
+
+pub conditional-returns-clause-reads : goal.conditional-returns-clause-reads
+conditional-returns-clause-reads t c =
+    placed (λ p. at p c.in_ok-form.form) _ (refl, c.requires) c.placed.ensures (past_part (past (begun_word (there here) refl (refl, c.requires)) (refl, c.requires) c.in_ok-counts.ensures) c.in_ok-form.ensures.reads)
+
+pub arrow_tail-returns-in_default-clause-reads : goal.arrow_tail-returns-in_default-clause-reads
+arrow_tail-returns-in_default-clause-reads t c =
+    (None, begun_empty here refl (arrow_tail_first _ c.in_default.ensures), refl)
+
+pub arrow_tail-returns-in_err-counts-clause-reads : goal.arrow_tail-returns-in_err-counts-clause-reads
+arrow_tail-returns-in_err-counts-clause-reads t c =
+    at_exit _ _ _ c.in_err-counts.field-0.0 c.from_residual.ensures.1 (fails_over (begun_word (there here) refl c.in-Some.ensures) c.in-Some.ensures c.in_err-counts.ensures)
+
+pub arrow_tail-returns-in_err-right-clause-reads : goal.arrow_tail-returns-in_err-right-clause-reads
+arrow_tail-returns-in_err-right-clause-reads t c =
+    at_exit _ _ _ c.in_err-right.field-0.0 c.from_residual-in_err-right.ensures.1 (fails_part (past (begun_word (there here) refl c.in-Some.ensures) c.in-Some.ensures c.in_ok-counts.ensures) _ c.in_err-right.ensures.reads)
+
+pub arrow_tail-returns-clause-reads : goal.arrow_tail-returns-clause-reads
+arrow_tail-returns-clause-reads t c =
+    (Some (c.in-Some.sign.now, c.in_ok-right.right), past_part (past (begun_word (there here) refl c.in-Some.ensures) c.in-Some.ensures c.in_ok-counts.ensures) c.in_ok-right.ensures.reads, c.in_ok-arrow.ensures)
+
+pub fbys-returns-in_err-left-clause-reads : goal.fbys-returns-in_err-left-clause-reads
+fbys-returns-in_err-left-clause-reads t c =
+    at_exit _ _ _ c.in_err-left.field-0.0 c.from_residual.ensures.1 (fails_part (begun_sole _ refl) _ (fails_part (begun_sole _ refl) _ c.in_err-left.ensures.reads))
+
+pub fbys-returns-in_err-left-2-clause-reads : goal.fbys-returns-in_err-left-2-clause-reads
+fbys-returns-in_err-left-2-clause-reads t c =
+    at_exit _ _ _ c.in_err-left-2.field-0.0 c.from_residual-in_err-left-2.ensures.1 (fails_part (begun_sole _ refl) _ (fails_part (past_part (begun_sole _ refl) c.in_ok-left.ensures.reads) _ c.in_err-left-2.ensures.reads))
+
+pub fbys-returns-clause-reads : goal.fbys-returns-clause-reads
+fbys-returns-clause-reads t c =
+    let read : Reads Sampled c.args.tokens.now c.args.counts c.in_ok-left-2.left c.in_ok-left-2.rest.now c.in_ok-left-2.counts =
+    rw c.in_ok-left-2.ensures.reads.2 (past_part (past_part (begun_sole _ refl) c.in_ok-left.ensures.reads) c.in_ok-left-2.ensures.reads.1) in
+    passed_on c.fby_tail.result c.fby_tail.ensures.reads (λ x d. rw d.2 (past_part (past_part (begun_sole _ refl) read) d.1)) (λ e d. fails_part (past_part (begun_sole _ refl) read) e d)
+
+pub fby_tail-returns-in_default-clause-reads : goal.fby_tail-returns-in_default-clause-reads
+fby_tail-returns-in_default-clause-reads t c =
+    (None, begun_empty here refl (fby_tail_first _ c.in_default.ensures), refl)
+
+pub fby_tail-returns-in_err-counts-clause-reads : goal.fby_tail-returns-in_err-counts-clause-reads
+fby_tail-returns-in_err-counts-clause-reads t c =
+    at_exit _ _ _ c.in_err-counts.field-0.0 c.from_residual.ensures.1 (fails_over (begun_word (there here) refl c.in-Some.ensures) c.in-Some.ensures c.in_err-counts.ensures)
+
+pub fby_tail-returns-in_err-right-clause-reads : goal.fby_tail-returns-in_err-right-clause-reads
+fby_tail-returns-in_err-right-clause-reads t c =
+    at_exit _ _ _ c.in_err-right.field-0.0 c.from_residual-in_err-right.ensures.1 (fails_part (past (begun_word (there here) refl c.in-Some.ensures) c.in-Some.ensures c.in_ok-counts.ensures) _ c.in_err-right.ensures.reads)
+
+pub fby_tail-returns-clause-reads : goal.fby_tail-returns-clause-reads
+fby_tail-returns-clause-reads t c =
+    (Some (c.in-Some.sign.now, c.in_ok-right.right), past_part (past (begun_word (there here) refl c.in-Some.ensures) c.in-Some.ensures c.in_ok-counts.ensures) c.in_ok-right.ensures.reads, c.in_ok-fby.ensures)
+
+pub level-returns-in_err-left-clause-reads : goal.level-returns-in_err-left-clause-reads
+level-returns-in_err-left-clause-reads t c =
+    at_exit _ _ _ c.in_err-left.field-0.0 c.from_residual.ensures.1 (fails_part (level_begun _) _ c.in_err-left.ensures.reads)
+
+pub level-signs-init : goal.level-signs-init
+level-signs-init t c =
+    record { so_far = rw c.levels_to-levels.ensures (past_part (level_begun _) c.in_ok-left.ensures.reads); shorter = omega (arith, c.in_ok-left.ensures.shorter) }
+
+pub level-returns-in_err-now-clause-reads : goal.level-returns-in_err-now-clause-reads
+level-returns-in_err-now-clause-reads t c =
+    at_exit _ _ _ c.in_err-now.field-0.0 c.from_residual-in_err-now.ensures.1 (level_over c.signs.levels.now c.signs.left c.signs.invariant.so_far c.in-Some.ensures c.in_err-now.ensures)
+
+pub level-returns-in_err-left-2-clause-reads : goal.level-returns-in_err-left-2-clause-reads
+level-returns-in_err-left-2-clause-reads t c =
+    at_exit _ _ _ c.in_err-left-2.field-0.0 c.from_residual-in_err-left-2.ensures.1 (level_fails c.signs.levels.now c.signs.left _ c.signs.invariant.so_far c.in-Some.ensures c.in_ok-now.ensures c.in_err-left-2.ensures.reads)
+
+pub level-signs-preserved : goal.level-signs-preserved
+level-signs-preserved t c =
+    record {
+      so_far = level_more c.signs.levels.now c.signs.left _ _ c.signs.invariant.so_far c.in-Some.ensures c.in_ok-now.ensures c.in_ok-left-2.ensures.reads.1 c.in_ok-left-2.ensures.reads.2;
+      shorter = omega (arith, c.in_ok-left-2.ensures.shorter, c.signs.invariant.shorter, ap length c.in-Some.ensures.0);
+    }
+
+pub level-returns-clause-reads : goal.level-returns-clause-reads
+level-returns-clause-reads t c =
+    level_ends c.signs.levels.now c.signs.left _ c.in_default.ensures c.signs.invariant.so_far
+
+pub with_operand-returns-in_err-right-clause-reads : goal.with_operand-returns-in_err-right-clause-reads
+with_operand-returns-in_err-right-clause-reads t c =
+    at_exit _ _ _ c.in_err-right.field-0.0 c.from_residual.ensures.1 c.in_err-right.ensures.reads
+
+pub with_operand-returns-clause-reads : goal.with_operand-returns-clause-reads
+with_operand-returns-clause-reads t c =
+    (c.in_ok-right.right, c.in_ok-right.ensures.reads, c.in_ok-whole.ensures)
+
+pub atom-returns-in-Some-clause-reads : goal.atom-returns-in-Some-clause-reads
+atom-returns-in-Some-clause-reads t c =
+    rw c.in-Some.ensures.0 c.variable.ensures.reads
+
+pub atom-returns-in-Some-take-clause-reads : goal.atom-returns-in-Some-take-clause-reads
+atom-returns-in-Some-take-clause-reads t c =
+    rw c.in-Some-take.ensures.0 c.parenthesised.ensures.reads
+
+pub atom-returns-in-Some-take-2-clause-reads : goal.atom-returns-in-Some-take-2-clause-reads
+atom-returns-in-Some-take-2-clause-reads t c =
+    rw c.in-Some-take-2.ensures.0 c.merged.ensures.reads
+
+pub atom-returns-in-Some-take-3-clause-reads : goal.atom-returns-in-Some-take-3-clause-reads
+atom-returns-in-Some-take-3-clause-reads t c =
+    rw c.in-Some-take-3.ensures.0 c.asynchronous.ensures.reads
+
+pub atom-returns-clause-reads : goal.atom-returns-clause-reads
+atom-returns-clause-reads t c =
+    passed_on c.literal.result c.literal.ensures.reads (λ x d. past_part (begun_first refl refl (atom_front _ c.in_default.ensures c.in_default-take.ensures c.in_default-take-2.ensures c.in_default-take-3.ensures)) d) (λ e d. fails_part (begun_first refl refl (atom_front _ c.in_default.ensures c.in_default-take.ensures c.in_default-take-2.ensures c.in_default-take-3.ensures)) e d)
+
+pub variable-returns-in_err-args-clause-reads : goal.variable-returns-in_err-args-clause-reads
+variable-returns-in_err-args-clause-reads t c =
+    at_exit _ _ _ c.in_err-args.field-0.0 c.from_residual.ensures.1 (fails_part (past_word (begun_word (there here) refl (refl, c.requires)) (refl, c.requires)) _ c.in_err-args.ensures.reads)
+
+pub variable-returns-clause-reads : goal.variable-returns-clause-reads
+variable-returns-clause-reads t c =
+    placed (λ p. at p (named c.args.name.now.name c.in_ok-args.args)) _ (refl, c.requires) c.in_ok-named.ensures (past_part (past_word (begun_word (there here) refl (refl, c.requires)) (refl, c.requires)) c.in_ok-args.ensures.reads)
+
+pub parenthesised-returns-in_err-counts-clause-reads : goal.parenthesised-returns-in_err-counts-clause-reads
+parenthesised-returns-in_err-counts-clause-reads t c =
+    let one : 1 + length c.args.tokens.now ≡ suc (length c.args.tokens.now) = omega arith in
+    at_exit _ _ _ c.in_err-counts.field-0.0 c.from_residual.ensures.1 (fails_over (begun_word (there (there here)) refl (refl, c.requires)) (refl, c.requires) (c.in_err-counts.ensures.0, c.in_err-counts.ensures.1 ∙ ap (λ n. TooDeep n) one))
+
+pub parenthesised-returns-in_err-inner-clause-reads : goal.parenthesised-returns-in_err-inner-clause-reads
+parenthesised-returns-in_err-inner-clause-reads t c =
+    at_exit _ _ _ c.in_err-inner.field-0.0 c.from_residual-in_err-inner.ensures.1 (fails_part (past (begun_word (there (there here)) refl (refl, c.requires)) (refl, c.requires) c.in_ok-counts.ensures) _ c.in_err-inner.ensures.reads)
+
+pub parenthesised-returns-in_err-rest-clause-reads : goal.parenthesised-returns-in_err-rest-clause-reads
+parenthesised-returns-in_err-rest-clause-reads t c =
+    at_exit _ _ _ c.in_err-rest.field-0.0 c.from_residual-in_err-rest.ensures.1 (fails_word (past_part (past (begun_word (there (there here)) refl (refl, c.requires)) (refl, c.requires) c.in_ok-counts.ensures) c.in_ok-inner.ensures.reads) c.in_err-rest.ensures)
+
+pub parenthesised-returns-clause-reads : goal.parenthesised-returns-clause-reads
+parenthesised-returns-clause-reads t c =
+    past_word (past_part (past (begun_word (there (there here)) refl (refl, c.requires)) (refl, c.requires) c.in_ok-counts.ensures) c.in_ok-inner.ensures.reads) c.in_ok-rest.ensures
+
+pub merged-returns-in_err-counts-clause-reads : goal.merged-returns-in_err-counts-clause-reads
+merged-returns-in_err-counts-clause-reads t c =
+    let one : 1 + length c.args.tokens.now ≡ suc (length c.args.tokens.now) = omega arith in
+    at_exit _ _ _ c.in_err-counts.field-0.0 c.from_residual.ensures.1 (fails_over (begun_word (there (there (there here))) refl (refl, c.requires)) (refl, c.requires) (c.in_err-counts.ensures.0, c.in_err-counts.ensures.1 ∙ ap (λ n. TooDeep n) one))
+
+pub merged-returns-in_err-form-clause-reads : goal.merged-returns-in_err-form-clause-reads
+merged-returns-in_err-form-clause-reads t c =
+    at_exit _ _ _ c.in_err-form.field-0.0 c.from_residual-in_err-form.ensures.1 (fails_part (past (begun_word (there (there (there here))) refl (refl, c.requires)) (refl, c.requires) c.in_ok-counts.ensures) _ c.in_err-form.ensures.reads)
+
+pub merged-returns-clause-reads : goal.merged-returns-clause-reads
+merged-returns-clause-reads t c =
+    placed (λ p. at p c.in_ok-form.form) _ (refl, c.requires) c.placed.ensures (past_part (past (begun_word (there (there (there here))) refl (refl, c.requires)) (refl, c.requires) c.in_ok-counts.ensures) c.in_ok-form.ensures.reads)
+
+pub asynchronous-returns-in_err-counts-clause-reads : goal.asynchronous-returns-in_err-counts-clause-reads
+asynchronous-returns-in_err-counts-clause-reads t c =
+    let one : 1 + length c.args.tokens.now ≡ suc (length c.args.tokens.now) = omega arith in
+    at_exit _ _ _ c.in_err-counts.field-0.0 c.from_residual.ensures.1 (fails_over (begun_word (there (there (there (there here)))) refl (refl, c.requires)) (refl, c.requires) (c.in_err-counts.ensures.0, c.in_err-counts.ensures.1 ∙ ap (λ n. TooDeep n) one))
+
+pub asynchronous-returns-in_err-form-clause-reads : goal.asynchronous-returns-in_err-form-clause-reads
+asynchronous-returns-in_err-form-clause-reads t c =
+    at_exit _ _ _ c.in_err-form.field-0.0 c.from_residual-in_err-form.ensures.1 (fails_part (past (begun_word (there (there (there (there here)))) refl (refl, c.requires)) (refl, c.requires) c.in_ok-counts.ensures) _ c.in_err-form.ensures.reads)
+
+pub asynchronous-returns-clause-reads : goal.asynchronous-returns-clause-reads
+asynchronous-returns-clause-reads t c =
+    placed (λ p. at p c.in_ok-form.form) _ (refl, c.requires) c.placed.ensures (past_part (past (begun_word (there (there (there (there here)))) refl (refl, c.requires)) (refl, c.requires) c.in_ok-counts.ensures) c.in_ok-form.ensures.reads)
 
 pub choosing-returns-in_err-condition-clause-reads : goal.choosing-returns-in_err-condition-clause-reads
 choosing-returns-in_err-condition-clause-reads t c =
@@ -57,96 +220,6 @@ else_part-returns-in_err-rest-clause-reads t c =
 pub else_part-returns-clause-reads : goal.else_part-returns-clause-reads
 else_part-returns-clause-reads t c =
     passed_on c.expression.result c.expression.ensures.reads (λ x d. past_part (past_word (begun_sole _ refl) c.in_ok-rest.ensures) d) (λ e d. fails_part (past_word (begun_sole _ refl) c.in_ok-rest.ensures) e d)
-
-pub arrows-returns-in_err-left-clause-reads : goal.arrows-returns-in_err-left-clause-reads
-arrows-returns-in_err-left-clause-reads t c =
-    at_exit _ _ _ c.in_err-left.field-0.0 c.from_residual.ensures.1 (fails_part (begun_sole _ refl) _ c.in_err-left.ensures.reads)
-
-pub arrows-returns-in-None-clause-reads : goal.arrows-returns-in-None-clause-reads
-arrows-returns-in-None-clause-reads t c =
-    past_part (past_part (begun_sole _ refl) c.in_ok-left.ensures.reads) (begun_empty here refl (arrow_tail_first _ c.in-None.ensures))
-
-pub arrows-returns-in_err-counts-in-Some-clause-reads : goal.arrows-returns-in_err-counts-in-Some-clause-reads
-arrows-returns-in_err-counts-in-Some-clause-reads t c =
-    at_exit _ _ _ c.in_err-counts-in-Some.field-0.0 c.from_residual-in_err-counts-in-Some.ensures.1 (fails_part (past_part (begun_sole _ refl) c.in_ok-left.ensures.reads) _ (fails_over (begun_word (there here) refl c.in-Some.ensures) c.in-Some.ensures c.in_err-counts-in-Some.ensures))
-
-pub arrows-returns-in_err-right-in-Some-clause-reads : goal.arrows-returns-in_err-right-in-Some-clause-reads
-arrows-returns-in_err-right-in-Some-clause-reads t c =
-    at_exit _ _ _ c.in_err-right-in-Some.field-0.0 c.from_residual-in_err-right-in-Some.ensures.1 (fails_part (past_part (begun_sole _ refl) c.in_ok-left.ensures.reads) _ (fails_part (past (begun_word (there here) refl c.in-Some.ensures) c.in-Some.ensures c.in_ok-counts-in-Some.ensures) _ c.in_err-right-in-Some.ensures.reads))
-
-pub arrows-returns-in_ok-arrow-in-Some-clause-reads : goal.arrows-returns-in_ok-arrow-in-Some-clause-reads
-arrows-returns-in_ok-arrow-in-Some-clause-reads t c =
-    rw c.in_ok-arrow-in-Some.ensures (past_part (past_part (begun_sole _ refl) c.in_ok-left.ensures.reads) (past_part (past (begun_word (there here) refl c.in-Some.ensures) c.in-Some.ensures c.in_ok-counts-in-Some.ensures) c.in_ok-right-in-Some.ensures.reads))
-
-pub fbys-returns-in_err-left-clause-reads : goal.fbys-returns-in_err-left-clause-reads
-fbys-returns-in_err-left-clause-reads t c =
-    at_exit _ _ _ c.in_err-left.field-0.0 c.from_residual.ensures.1 (fails_part (begun_sole _ refl) _ c.in_err-left.ensures.reads)
-
-pub fbys-returns-in-None-clause-reads : goal.fbys-returns-in-None-clause-reads
-fbys-returns-in-None-clause-reads t c =
-    past_part (past_part (begun_sole _ refl) c.in_ok-left.ensures.reads) (begun_empty here refl (fby_tail_first _ c.in-None.ensures))
-
-pub fbys-returns-in_err-counts-in-Some-clause-reads : goal.fbys-returns-in_err-counts-in-Some-clause-reads
-fbys-returns-in_err-counts-in-Some-clause-reads t c =
-    at_exit _ _ _ c.in_err-counts-in-Some.field-0.0 c.from_residual-in_err-counts-in-Some.ensures.1 (fails_part (past_part (begun_sole _ refl) c.in_ok-left.ensures.reads) _ (fails_over (begun_word (there here) refl c.in-Some.ensures) c.in-Some.ensures c.in_err-counts-in-Some.ensures))
-
-pub fbys-returns-in_err-right-in-Some-clause-reads : goal.fbys-returns-in_err-right-in-Some-clause-reads
-fbys-returns-in_err-right-in-Some-clause-reads t c =
-    at_exit _ _ _ c.in_err-right-in-Some.field-0.0 c.from_residual-in_err-right-in-Some.ensures.1 (fails_part (past_part (begun_sole _ refl) c.in_ok-left.ensures.reads) _ (fails_part (past (begun_word (there here) refl c.in-Some.ensures) c.in-Some.ensures c.in_ok-counts-in-Some.ensures) _ c.in_err-right-in-Some.ensures.reads))
-
-pub fbys-returns-in_ok-fby-in-Some-clause-reads : goal.fbys-returns-in_ok-fby-in-Some-clause-reads
-fbys-returns-in_ok-fby-in-Some-clause-reads t c =
-    rw c.in_ok-fby-in-Some.ensures (past_part (past_part (begun_sole _ refl) c.in_ok-left.ensures.reads) (past_part (past (begun_word (there here) refl c.in-Some.ensures) c.in-Some.ensures c.in_ok-counts-in-Some.ensures) c.in_ok-right-in-Some.ensures.reads))
-
-pub sampled-returns-in_err-left-clause-reads : goal.sampled-returns-in_err-left-clause-reads
-sampled-returns-in_err-left-clause-reads t c =
-    at_exit _ _ _ c.in_err-left.field-0.0 c.from_residual.ensures.1 (fails_part (begun_sole _ refl) _ c.in_err-left.ensures.reads)
-
-pub sampled-samples-init : goal.sampled-samples-init
-sampled-samples-init t c = record { so_far = past_part (begun_sole _ refl) c.in_ok-left.ensures.reads; shorter = omega (arith, c.in_ok-left.ensures.shorter) }
-
-pub sampled-returns-in_err-next-clause-reads : goal.sampled-returns-in_err-next-clause-reads
-sampled-returns-in_err-next-clause-reads t c =
-    at_exit _ _ _ c.in_err-next.field-0.0 c.from_residual-in_err-next.ensures.1 (fails_part c.samples.invariant.so_far _ (fails_part (samples_begun (sym c.starts_sample.ensures ∙ c.samples-test.true)) _ c.in_err-next.ensures.reads))
-
-pub sampled-samples-preserved : goal.sampled-samples-preserved
-sampled-samples-preserved t c = record {
-  so_far = same_gives _ _ (λ us. ap (λ x. sampled x us.0) (sym c.in_ok-left-2.ensures)) (nest c.samples.invariant.so_far (past_part (samples_begun (sym c.starts_sample.ensures ∙ c.samples-test.true)) c.in_ok-next.ensures.reads));
-  shorter = omega (arith, c.in_ok-next.ensures.shorter, c.samples.invariant.shorter);
-}
-
-pub sampled-returns-clause-reads : goal.sampled-returns-clause-reads
-sampled-returns-clause-reads t c =
-    nest c.samples.invariant.so_far (begun_empty here refl (samples_first _ (sym c.starts_sample.ensures ∙ c.samples-test.false)))
-
-pub level-returns-in_err-left-clause-reads : goal.level-returns-in_err-left-clause-reads
-level-returns-in_err-left-clause-reads t c =
-    at_exit _ _ _ c.in_err-left.field-0.0 c.from_residual.ensures.1 (fails_part (begun_sole _ refl) _ c.in_err-left.ensures.reads)
-
-pub level-signs-init : goal.level-signs-init
-level-signs-init t c = record { so_far = past_part (begun_sole _ refl) c.in_ok-left.ensures.reads; shorter = omega (arith, c.in_ok-left.ensures.shorter) }
-
-pub level-returns-in_err-now-clause-reads : goal.level-returns-in_err-now-clause-reads
-level-returns-in_err-now-clause-reads t c =
-    at_exit _ _ _ c.in_err-now.field-0.0 c.from_residual-in_err-now.ensures.1 (fails_part c.signs.invariant.so_far _ (signs_over _ _ _ _ c.in-Some.ensures.0 c.in-Some.ensures.1 c.in_err-now.ensures))
-
-pub level-returns-in_err-right-clause-reads : goal.level-returns-in_err-right-clause-reads
-level-returns-in_err-right-clause-reads t c =
-    at_exit _ _ _ c.in_err-right.field-0.0 c.from_residual-in_err-right.ensures.1 (fails_part c.signs.invariant.so_far _ (fails_part (signs_begun _ _ _ c.in-Some.ensures.0 c.in-Some.ensures.1 c.in_ok-now.ensures) _ c.in_err-right.ensures.reads))
-
-pub level-returns-then-has_one_sign-clause-reads : goal.level-returns-then-has_one_sign-clause-reads
-level-returns-then-has_one_sign-clause-reads t c =
-    level_last _ _ _ _ _ c.signs.invariant.so_far c.in-Some.ensures c.in_ok-now.ensures c.in_ok-right.ensures.reads c.in_ok-left-2.ensures (when_true _ _ c.if-has_one_sign.true c.has_one_sign.ensures)
-
-pub level-signs-preserved : goal.level-signs-preserved
-level-signs-preserved t c = record {
-  so_far = level_more _ _ _ _ _ c.signs.invariant.so_far c.in-Some.ensures c.in_ok-now.ensures c.in_ok-right.ensures.reads c.in_ok-left-2.ensures (when_false _ _ c.if-has_one_sign.false c.has_one_sign.ensures);
-  shorter = omega (arith, c.in_ok-right.ensures.shorter, c.signs.invariant.shorter, ap length c.in-Some.ensures.0);
-}
-
-pub level-returns-clause-reads : goal.level-returns-clause-reads
-level-returns-clause-reads t c =
-    nest c.signs.invariant.so_far (begun_empty here refl c.in_default.ensures)
 
 pub operand-returns-in-Or-clause-reads : goal.operand-returns-in-Or-clause-reads
 operand-returns-in-Or-clause-reads t c =
@@ -247,58 +320,6 @@ after_minus-returns-in_err-operand-2-clause-reads t c =
 pub after_minus-returns-clause-reads : goal.after_minus-returns-clause-reads
 after_minus-returns-clause-reads t c =
     (inr c.in_ok-operand-2.operand, past_part (after_minus_atom c.in_default.ensures (sym c.starts_signed.ensures ∙ c.if-starts_signed.false)) c.in_ok-operand-2.ensures.reads, c.in_ok-unary.ensures)
-
-pub atom-returns-in_err-args-clause-reads : goal.atom-returns-in_err-args-clause-reads
-atom-returns-in_err-args-clause-reads t c =
-    at_exit _ _ _ c.in_err-args.field-0.0 c.from_residual.ensures.1 (fails_part (past_word (begun_word (there here) refl c.in-Some.ensures) c.in-Some.ensures) _ c.in_err-args.ensures.reads)
-
-pub atom-returns-in-Some-clause-reads : goal.atom-returns-in-Some-clause-reads
-atom-returns-in-Some-clause-reads t c =
-    placed (λ p. at p (named c.in-Some.name.now.name c.in_ok-args.args)) _ c.in-Some.ensures c.in_ok-named.ensures (past_part (past_word (begun_word (there here) refl c.in-Some.ensures) c.in-Some.ensures) c.in_ok-args.ensures.reads)
-
-pub atom-returns-in_err-counts-clause-reads : goal.atom-returns-in_err-counts-clause-reads
-atom-returns-in_err-counts-clause-reads t c =
-    at_exit _ _ _ c.in_err-counts.field-0.0 c.from_residual-in_err-counts.ensures.1 (fails_over (begun_word (there (there here)) refl c.in-Some-take.ensures) c.in-Some-take.ensures c.in_err-counts.ensures)
-
-pub atom-returns-in_err-inner-clause-reads : goal.atom-returns-in_err-inner-clause-reads
-atom-returns-in_err-inner-clause-reads t c =
-    at_exit _ _ _ c.in_err-inner.field-0.0 c.from_residual-in_err-inner.ensures.1 (fails_part (past (begun_word (there (there here)) refl c.in-Some-take.ensures) c.in-Some-take.ensures c.in_ok-counts.ensures) _ c.in_err-inner.ensures.reads)
-
-pub atom-returns-in_err-rest-clause-reads : goal.atom-returns-in_err-rest-clause-reads
-atom-returns-in_err-rest-clause-reads t c =
-    at_exit _ _ _ c.in_err-rest.field-0.0 c.from_residual-in_err-rest.ensures.1 (fails_word (past_part (past (begun_word (there (there here)) refl c.in-Some-take.ensures) c.in-Some-take.ensures c.in_ok-counts.ensures) c.in_ok-inner.ensures.reads) c.in_err-rest.ensures)
-
-pub atom-returns-in-Some-take-clause-reads : goal.atom-returns-in-Some-take-clause-reads
-atom-returns-in-Some-take-clause-reads t c =
-    past_word (past_part (past (begun_word (there (there here)) refl c.in-Some-take.ensures) c.in-Some-take.ensures c.in_ok-counts.ensures) c.in_ok-inner.ensures.reads) c.in_ok-rest.ensures
-
-pub atom-returns-in_err-counts-2-clause-reads : goal.atom-returns-in_err-counts-2-clause-reads
-atom-returns-in_err-counts-2-clause-reads t c =
-    at_exit _ _ _ c.in_err-counts-2.field-0.0 c.from_residual-in_err-counts-2.ensures.1 (fails_over (begun_word (there (there (there here))) refl c.in-Some-take-2.ensures) c.in-Some-take-2.ensures c.in_err-counts-2.ensures)
-
-pub atom-returns-in_err-form-clause-reads : goal.atom-returns-in_err-form-clause-reads
-atom-returns-in_err-form-clause-reads t c =
-    at_exit _ _ _ c.in_err-form.field-0.0 c.from_residual-in_err-form.ensures.1 (fails_part (past (begun_word (there (there (there here))) refl c.in-Some-take-2.ensures) c.in-Some-take-2.ensures c.in_ok-counts-2.ensures) _ c.in_err-form.ensures.reads)
-
-pub atom-returns-in-Some-take-2-clause-reads : goal.atom-returns-in-Some-take-2-clause-reads
-atom-returns-in-Some-take-2-clause-reads t c =
-    placed (λ p. at p c.in_ok-form.form) _ c.in-Some-take-2.ensures c.placed.ensures (past_part (past (begun_word (there (there (there here))) refl c.in-Some-take-2.ensures) c.in-Some-take-2.ensures c.in_ok-counts-2.ensures) c.in_ok-form.ensures.reads)
-
-pub atom-returns-in_err-counts-3-clause-reads : goal.atom-returns-in_err-counts-3-clause-reads
-atom-returns-in_err-counts-3-clause-reads t c =
-    at_exit _ _ _ c.in_err-counts-3.field-0.0 c.from_residual-in_err-counts-3.ensures.1 (fails_over (begun_word (there (there (there (there here)))) refl c.in-Some-take-3.ensures) c.in-Some-take-3.ensures c.in_err-counts-3.ensures)
-
-pub atom-returns-in_err-form-2-clause-reads : goal.atom-returns-in_err-form-2-clause-reads
-atom-returns-in_err-form-2-clause-reads t c =
-    at_exit _ _ _ c.in_err-form-2.field-0.0 c.from_residual-in_err-form-2.ensures.1 (fails_part (past (begun_word (there (there (there (there here)))) refl c.in-Some-take-3.ensures) c.in-Some-take-3.ensures c.in_ok-counts-3.ensures) _ c.in_err-form-2.ensures.reads)
-
-pub atom-returns-in-Some-take-3-clause-reads : goal.atom-returns-in-Some-take-3-clause-reads
-atom-returns-in-Some-take-3-clause-reads t c =
-    placed (λ p. at p c.in_ok-form-2.form) _ c.in-Some-take-3.ensures c.placed-in-Some-take-3.ensures (past_part (past (begun_word (there (there (there (there here)))) refl c.in-Some-take-3.ensures) c.in-Some-take-3.ensures c.in_ok-counts-3.ensures) c.in_ok-form-2.ensures.reads)
-
-pub atom-returns-clause-reads : goal.atom-returns-clause-reads
-atom-returns-clause-reads t c =
-    passed_on c.literal.result c.literal.ensures.reads (λ x d. past_part (begun_first refl refl (atom_front _ c.in_default.ensures c.in_default-take.ensures c.in_default-take-2.ensures c.in_default-take-3.ensures)) d) (λ e d. fails_part (begun_first refl refl (atom_front _ c.in_default.ensures c.in_default-take.ensures c.in_default-take-2.ensures c.in_default-take-3.ensures)) e d)
 
 pub call_tail-returns-in-None-clause-reads : goal.call_tail-returns-in-None-clause-reads
 call_tail-returns-in-None-clause-reads t c =

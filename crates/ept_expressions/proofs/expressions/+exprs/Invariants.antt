@@ -1,20 +1,15 @@
-use Rattle.std.proofs.Common.{◌<◌, ◌≤◌, ◌+◌, ◌*◌, length, [], ◌∷◌, ◌++◌, Some}
-use Rattle.ept_grammar.specs.Grammar.{Args, Infix, Merge_list, Merge_branches, More_args, Operands, Sampled, Samples, part, grouped, sampled}
+use Rattle.std.proofs.Common.{◌<◌, ◌≤◌, ◌+◌, ◌*◌, length, [], ◌∷◌, ◌++◌}
+use Rattle.ept_grammar.specs.Grammar.{Args, Merge_list, Merge_branches, More_args, part}
 use Rattle.ept_grammar.specs.Reading.{To}
 use Rattle.ept_grammar.proofs.Steps.{rank}
+use Rattle.ept_expressions.proofs.Levels.{Climbs}
 use Rattle.ept_expressions.proofs.expressions.+exprs.Given as goal
 
 abbrev pub decreases-expression : goal.decreases-expression
 decreases-expression l = 32 * length l.tokens.now + 17
 
-abbrev pub decreases-arrows : goal.decreases-arrows
-decreases-arrows l = 32 * length l.tokens.now + 16
-
 abbrev pub decreases-fbys : goal.decreases-fbys
 decreases-fbys l = 32 * length l.tokens.now + 15
-
-abbrev pub decreases-sampled : goal.decreases-sampled
-decreases-sampled l = 32 * length l.tokens.now + 14
 
 abbrev pub decreases-level : goal.decreases-level
 decreases-level l = 32 * length l.tokens.now + (4 + 2 * rank l.level)
@@ -52,14 +47,8 @@ decreases-merge_branch l = 32 * length l.tokens.now
 abbrev pub decreases-async_tail : goal.decreases-async_tail
 decreases-async_tail l = 32 * length l.tokens.now
 
-abbrev pub invariant-sampled-samples : goal.invariant-sampled-samples
-invariant-sampled-samples l = record { so_far : To Sampled l.tokens l.fn.counts (part Samples ∷ []) (λ us. sampled l.left us.0) l.rest l.now; shorter : length l.rest < length l.tokens }
-
-abbrev pub decreases-sampled-samples : goal.decreases-sampled-samples
-decreases-sampled-samples l = length l.rest
-
 abbrev pub invariant-level-signs : goal.invariant-level-signs
-invariant-level-signs l = record { so_far : To (Infix l.fn.level) l.tokens l.fn.counts (part (Operands (Some l.fn.level)) ∷ []) (λ us. grouped l.left us.0) l.rest l.now; shorter : length l.rest < length l.tokens }
+invariant-level-signs l = record { so_far : Climbs l.fn.level l.tokens l.fn.counts l.levels l.left l.rest l.now; shorter : length l.rest < length l.tokens }
 
 abbrev pub decreases-level-signs : goal.decreases-level-signs
 decreases-level-signs l = length l.rest
@@ -87,3 +76,27 @@ decreases-then_part l = 32 * length l.tokens.now
 
 abbrev pub decreases-else_part : goal.decreases-else_part
 decreases-else_part l = 32 * length l.tokens.now
+
+abbrev pub decreases-conditional : goal.decreases-conditional
+decreases-conditional l = 32 * length l.tokens.now + 19
+
+abbrev pub decreases-arrow_tail : goal.decreases-arrow_tail
+decreases-arrow_tail l = 32 * length l.tokens.now
+
+abbrev pub decreases-fby_tail : goal.decreases-fby_tail
+decreases-fby_tail l = 32 * length l.tokens.now
+
+abbrev pub decreases-with_operand : goal.decreases-with_operand
+decreases-with_operand l = 32 * length l.sign.after.now + 16
+
+abbrev pub decreases-variable : goal.decreases-variable
+decreases-variable l = 32 * length l.tokens.now + 21
+
+abbrev pub decreases-parenthesised : goal.decreases-parenthesised
+decreases-parenthesised l = 32 * length l.tokens.now + 18
+
+abbrev pub decreases-merged : goal.decreases-merged
+decreases-merged l = 32 * length l.tokens.now + 18
+
+abbrev pub decreases-asynchronous : goal.decreases-asynchronous
+decreases-asynchronous l = 32 * length l.tokens.now + 18

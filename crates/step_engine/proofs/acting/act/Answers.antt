@@ -1,4 +1,4 @@
-use Rattle.std.proofs.Common.{◌≡◌, inl, inr, ◌<◌, Some, length, sym, subst}
+use Rattle.std.proofs.Common.{◌≡◌, inl, inr, Some, length, sym, subst}
 use Rattle.std.specs.Prelude.{slice_get, slice_index}
 use Rattle.step_engine.specs.Actions.{IsOwned}
 use Rattle.step_engine.proofs.ActionsDone.{computed_step, moved_step, moved_owned, got_step, get_within, offer_at, offered_step, cleared_step, offered_owned, cleared_owned, owned_later}

@@ -1,4 +1,4 @@
-use Rattle.std.proofs.Common.{◌≡◌, Some, None}
+use Rattle.std.proofs.Common.{◌≡◌, None}
 use Rattle.step_engine.specs.Actions.{with_futures}
 use Rattle.step_engine.proofs.acting.clear.Given as goal
 

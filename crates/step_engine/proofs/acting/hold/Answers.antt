@@ -1,4 +1,4 @@
-use Rattle.std.proofs.Common.{◌≡◌, ℕ, Some, None, ap, ◌∙◌, arith}
+use Rattle.std.proofs.Common.{◌≡◌, ℕ, Some, ap, ◌∙◌, arith}
 use Rattle.step_engine.specs.Actions.{with_futures}
 use Rattle.step_engine.proofs.acting.hold.Goals as goal
 

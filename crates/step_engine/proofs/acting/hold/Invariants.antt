@@ -1,4 +1,4 @@
-use Rattle.std.proofs.Common.{◌≡◌, Some, None}
+use Rattle.std.proofs.Common.{◌≡◌, Some}
 use Rattle.step_engine.specs.Actions.{with_futures}
 use Rattle.step_engine.proofs.acting.hold.Given as goal
 

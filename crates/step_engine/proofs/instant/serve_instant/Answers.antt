@@ -1,13 +1,13 @@
-use Rattle.std.proofs.Common.{◌≡◌, ℕ, ◌+◌, ◌<◌, List, length, ap, All, subst, sym, ◌∙◌, arith}
+use Rattle.std.proofs.Common.{◌≡◌, ℕ, ◌+◌, List, length, ap, subst, sym, arith}
 use Rattle.std.specs.Prelude.{EachIndex, slice_index_or}
 use Rattle.step_plans.specs.Operations.{no_future}
 use Rattle.step_plans.specs.declared.action.Action.{Action}
 use Rattle.step_plans.specs.declared.action.Offering.{Offering}
 use Rattle.step_plans.specs.declared.instruction.Store.{Store}
-use Rattle.step_plans.specs.Instants.{Kept_state, ServesInstant}
 use Rattle.step_engine.specs.Running.{AreIn, IsAfter}
 use Rattle.step_engine.specs.Actions.{AreDone, AreFuturesAfter, IsOwned, State}
 use Rattle.step_engine.specs.Instant.{AreMarked}
+use Rattle.step_engine.proofs.CallsOfBook.{calls_go_on}
 use Rattle.step_engine.proofs.WholeInstant.{Ran, serves_instant}
 use Rattle.step_engine.proofs.instant.serve_instant.Goals as goal
 
@@ -48,5 +48,6 @@ returns g c = λ book st owned.
       x.0,
       x.1,
       record { named = c.store_futures.ensures.named x.0 later.named; outputs = later.outputs },
+      calls_go_on c.args.plan.now.offerings.items c.args.cells.now c.args.marks.now c.args.plan.now.actions.items s v ran.done,
       serves_instant c.args.plan.now c.args.inputs.now c.give.new.outputs _ _ s v ran,
     )

@@ -1,9 +1,7 @@
-use Rattle.std.proofs.Common.{ℕ, ◌<◌, ◌≤◌, All, length, sym, subst, ◌∙◌, arith}
-use Rattle.step_plans.specs.Books.{IsCellOf}
+use Rattle.std.proofs.Common.{◌≤◌, length, sym, ◌∙◌, arith}
 use Rattle.step_engine.proofs.ActionsDone.{cells_set}
 use Rattle.step_engine.proofs.FuturesKept.{store_here, store_left, stored_owned}
 use Rattle.std.proofs.lemmas.Option.{slice_get_within}
-use Rattle.step_engine.specs.Actions.{IsFutureStoreWithin}
 use Rattle.step_engine.proofs.storing.store_futures.Goals as goal
 
 pub loop-i-preserved : goal.loop-i-preserved

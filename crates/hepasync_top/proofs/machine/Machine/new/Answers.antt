@@ -7,6 +7,7 @@ use Rattle.plain_stepper.specs.Stepping.{IsSteppable}
 use Rattle.plain_stepper.proofs.Among.{list_all_back, list_all_front}
 use Rattle.plain_stepper.proofs.RowShapes.{few_in_program, shape_length, served_inputs, served_outputs}
 use Rattle.plain_stepper.proofs.Steppable.{steppable}
+use Rattle.run_checks.proofs.FewNodes.{few_inputs}
 use Rattle.hepasync_top.proofs.machine.Machine.new.Goals as goal
 
 pub of-requires-clause-plain : goal.of-requires-clause-plain
@@ -54,8 +55,8 @@ returns-in-Ok-Ok-Ok-clause-can c =
         output_shape = outputs_are ∙ sym (served_outputs c.args.program.now stands.served);
       };
       inputs = input_count;
-      few = omega (arith, input_count);
-      row = c.in-Ok-Ok-Ok.ensures'.len ∙ c.inputs-3.ensures;
+      few = omega (arith, input_count, few_inputs c.args.program.now node c.requires.clean stands.served.one, stands.inputs);
+      row = c.in-Ok-Ok-Ok.ensures'.len ∙ c.inputs-2.ensures;
       outputs = output_count;
       values = c.in-Ok-Ok-Ok.ensures''.len ∙ c.outputs-2.ensures;
       writer = c.in_ok-writer.ensures;

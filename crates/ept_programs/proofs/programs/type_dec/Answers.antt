@@ -1,0 +1,23 @@
+use Rattle.std.proofs.Common.{refl}
+use Rattle.ept_grammar.proofs.Steps.{placed, at_exit, begun_sole, fails_part, fails_word, past_part, past_word}
+use Rattle.ept_programs.proofs.programs.type_dec.Goals as goal
+
+pub returns-in_err-word-clause-reads : goal.returns-in_err-word-clause-reads
+returns-in_err-word-clause-reads c =
+    at_exit _ _ _ c.in_err-word.field-0.0 c.from_residual.ensures.1 (fails_word (begun_sole _ refl) c.in_err-word.ensures)
+
+pub returns-in_err-title-clause-reads : goal.returns-in_err-title-clause-reads
+returns-in_err-title-clause-reads c =
+    at_exit _ _ _ c.in_err-title.field-0.0 c.from_residual-in_err-title.ensures.1 (fails_word (past_word (begun_sole _ refl) c.in_ok-word.ensures) c.in_err-title.ensures)
+
+pub returns-in_err-after-clause-reads : goal.returns-in_err-after-clause-reads
+returns-in_err-after-clause-reads c =
+    at_exit _ _ _ c.in_err-after.field-0.0 c.from_residual-in_err-after.ensures.1 (fails_word (past_word (past_word (begun_sole _ refl) c.in_ok-word.ensures) c.in_ok-title.ensures) c.in_err-after.ensures)
+
+pub returns-in_err-constructors-clause-reads : goal.returns-in_err-constructors-clause-reads
+returns-in_err-constructors-clause-reads c =
+    at_exit _ _ _ c.in_err-constructors.field-0.0 c.from_residual-in_err-constructors.ensures.1 (fails_part (past_word (past_word (past_word (begun_sole _ refl) c.in_ok-word.ensures) c.in_ok-title.ensures) c.in_ok-after.ensures) _ c.in_err-constructors.ensures.reads)
+
+pub returns-clause-reads : goal.returns-clause-reads
+returns-clause-reads c =
+    placed (λ p. record { place = p; name = c.in_ok-name.name; constructors = c.in_ok-constructors.constructors }) _ c.in_ok-word.ensures refl (rw c.in_ok-name.ensures (past_part (past_word (past_word (past_word (begun_sole _ refl) c.in_ok-word.ensures) c.in_ok-title.ensures) c.in_ok-after.ensures) c.in_ok-constructors.ensures.reads))

@@ -1,0 +1,2 @@
+pub mod LoweredReads
+pub mod LoweredPlaces

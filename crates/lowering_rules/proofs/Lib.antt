@@ -1,0 +1,11 @@
+pub mod Steps
+pub mod Matching
+pub mod TiedTexts
+pub mod TiedQuestions
+pub mod Known
+pub mod Accepted
+pub mod KeptOutputs
+pub mod Orders
+pub mod TiedPieces
+pub mod FoundSites
+pub mod KeptSites

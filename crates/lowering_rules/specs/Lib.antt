@@ -1,0 +1,4 @@
+pub mod PlainPrograms
+pub mod Lowering
+pub mod Ties
+pub mod LoweringLaws
