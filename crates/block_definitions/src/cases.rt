@@ -11,10 +11,11 @@ ghost use Rattle.earliest_fault.specs.Labels.{label_of};
 ghost use Rattle.block_definitions.specs.Defined.{block_gap, gaps_in, is_gap, state_label, tag_label};
 
 use crate::definitions::has_last;
-use declared_types::is_same_tag;
 use earliest_fault::{Found, Kind, Label, note_seconds, push_label};
 use hept_ast::{Block, Branch, Decl, Escape, Memory, Name, Place, State, Tag};
-use node_text::{is_listed, is_same, push_block_sets, push_branch_sets, push_state_sets};
+use node_text::{
+    is_listed, is_same, is_same_tag, push_block_sets, push_branch_sets, push_state_sets,
+};
 use std::alloc::Global;
 
 fn is_tag_of(tag: &Tag, branches: &[Branch]) -> bool

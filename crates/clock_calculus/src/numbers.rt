@@ -2,16 +2,14 @@
 ghost use Rattle.std.specs.Prelude.{◌≡◌, All, IfOk, OnOk, map, position, true};
 ghost use Rattle.std.specs.List.{list_any};
 ghost use Rattle.hept_ast.specs.Texts.{same};
-ghost use Rattle.hept_ast.specs.Types.{same_tag};
-ghost use Rattle.hept_ast.specs.declared.tree.Tag.TheVariants as tag_;
 ghost use Rattle.clock_calculus.specs.Numbering.{IsKnownToo, KnowsStep, encoded, names_of, same_step, step_number, step_of, steps_of};
 ghost use Rattle.clock_calculus.specs.Unify.{IsWithin};
 ghost use Rattle.clock_calculus.specs.Written.{base_term, clock_term};
 
 use crate::conditions::{Base, Clock, Condition, Step};
 use crate::unify::Term;
-use hept_ast::{Memory, Name, Tag};
-use node_text::is_same;
+use hept_ast::{Memory, Name};
+use node_text::{is_same, is_same_tag};
 use sqlite_items::Items;
 use std::alloc::Global;
 
@@ -23,33 +21,6 @@ pub(crate) struct Numbers<'a> {
     pub steps: Vec<Step<'a>>,
     /// How many variables and expressions there are.
     pub unknowns: usize,
-}
-
-fn is_truth(tag: &Tag, value: bool) -> bool
-    ensures { result ≡ same_tag (tag_.Truth value) tag.now }
-{
-    match tag {
-        Tag::Truth(other) => *other == value,
-        Tag::Constructor(_) => false,
-    }
-}
-
-fn is_constructor(tag: &Tag, name: &Name) -> bool
-    ensures { result ≡ same_tag (tag_.Constructor name.now) tag.now }
-{
-    match tag {
-        Tag::Truth(_) => false,
-        Tag::Constructor(other) => is_same(name, other),
-    }
-}
-
-fn is_same_tag(tag: &Tag, other: &Tag) -> bool
-    ensures { result ≡ same_tag tag.now other.now }
-{
-    match tag {
-        Tag::Truth(value) => is_truth(other, *value),
-        Tag::Constructor(name) => is_constructor(other, name),
-    }
 }
 
 pub(crate) fn is_same_step(step: Step<'_>, other: Step<'_>) -> bool

@@ -15,7 +15,7 @@ use crate::given::{Type, has_tags, is_same_type};
 use crate::typing::{PlainType, tag_type};
 use earliest_fault::{Found, Kind};
 use hept_ast::{Branch, MergeBranch, Name, Place, Tag, TypeDec};
-use node_text::is_same;
+use node_text::{is_constructor, is_same, is_truth};
 
 /// A branch, of a switch or of a merge.
 pub trait Tagged {
@@ -38,33 +38,6 @@ impl Tagged for MergeBranch {
 
     fn tag(&self) -> &Tag {
         &self.tag
-    }
-}
-
-fn is_truth(tag: &Tag, value: bool) -> bool
-    ensures { result ≡ same_tag (tag_.Truth value) tag.now }
-{
-    match tag {
-        Tag::Truth(other) => *other == value,
-        Tag::Constructor(_) => false,
-    }
-}
-
-fn is_constructor(tag: &Tag, name: &Name) -> bool
-    ensures { result ≡ same_tag (tag_.Constructor name.now) tag.now }
-{
-    match tag {
-        Tag::Truth(_) => false,
-        Tag::Constructor(other) => is_same(name, other),
-    }
-}
-
-pub fn is_same_tag(tag: &Tag, other: &Tag) -> bool
-    ensures { result ≡ same_tag tag.now other.now }
-{
-    match tag {
-        Tag::Truth(value) => is_truth(other, *value),
-        Tag::Constructor(name) => is_constructor(other, name),
     }
 }
 

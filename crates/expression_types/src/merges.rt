@@ -13,9 +13,10 @@ ghost use Rattle.declared_types.specs.Types.{type_in, types_in};
 use crate::fits::{Fit, alike_one};
 use crate::reads::{note_read, note_unknown_tag};
 use crate::scenes::Scene;
-use declared_types::{Type, Types, fits_tag, has_tags, is_same_tag, lacks_tag, tag_type};
+use declared_types::{Type, Types, fits_tag, has_tags, lacks_tag, tag_type};
 use earliest_fault::{Found, Kind};
 use hept_ast::{MergeBranch, Name, Place, Tag};
+use node_text::is_same_tag;
 
 /// Notes what is wrong with the tag and the variable of a `when`, and says whether something is.
 #[tactic(auto, using(hept_ast::proofs::Earliest::earliest_of))]

@@ -6,6 +6,7 @@ mod expressions;
 mod names;
 mod pieces;
 mod sets;
+mod tags;
 
 pub use declarations::{
     declaration, declaration_at, declared_inside, node_declarations, node_variables,
@@ -15,3 +16,4 @@ pub use expressions::{node_expressions, push_expressions, push_inside};
 pub use names::{is_among, is_listed, is_same, push_listed, push_name, push_names};
 pub use pieces::{Piece, push_equations};
 pub use sets::{is_declared_in, push_block_sets, push_branch_sets, push_sets, push_state_sets};
+pub use tags::{is_constructor, is_same_tag, is_truth};
