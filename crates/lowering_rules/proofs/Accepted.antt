@@ -33,7 +33,7 @@ use Rattle.lowering_rules.specs.Ties.{core_equation, TiedEquations, TiedNode, Ti
 
 -- ---- the frame of a node changes nothing
 
-same_names : (ds : List Decl) → names (map without_initial ds) ≡ names ds
+pub same_names : (ds : List Decl) → names (map without_initial ds) ≡ names ds
 same_names [] = refl
 same_names (d ∷ ds) = ap (λ (l : List Name). d.name ∷ l) (same_names ds)
 
@@ -115,10 +115,10 @@ module _ (c : ClockedProgram) (sound : SoundProgram c) (least : HasLeastClocks c
     abbrev decls : List Decl
     decls = node.inputs ++ node.outputs ++ node.block.locals
 
-    tied_equations : TiedEquations k.clock 0 body low.equations h.calls
+    pub tied_equations : TiedEquations k.clock 0 body low.equations h.calls
     tied_equations = equations_tied k 0 h.calls body low.equations h.equations (λ q i. s.sound_parts q (contains_there _ q (flat_map (parts_of []) body) i))
 
-    variables_are : variables node ≡ decls
+    pub variables_are : variables node ≡ decls
     variables_are =
         ap (λ (ds : List Decl). node.inputs ++ ((node.outputs ++ node.block.locals) ++ ds)) (plain_declares k.clock 0 h.calls body low.equations tied_equations)
         ∙ ap (λ (ds : List Decl). node.inputs ++ ds) (append-nil (node.outputs ++ node.block.locals))
@@ -131,7 +131,7 @@ module _ (c : ClockedProgram) (sound : SoundProgram c) (least : HasLeastClocks c
     undeclared x e = declared_or_base (path_in c.clocks n x) (declares_in (slice_get c.program.nodes n) x) (least.exact n x) (declares_it x e)
 
     -- each output and local is defined
-    is_defined : (d : Decl) → Contains (node.outputs ++ node.block.locals) d → is_in d.name (flat_map sets_of body) ≡ true
+    pub is_defined : (d : Decl) → Contains (node.outputs ++ node.block.locals) d → is_in d.name (flat_map sets_of body) ≡ true
     is_defined d i =
         subst (λ (xs : List Name). is_in d.name xs ≡ true) (sets_are body)
         (s.sound_parts (record { site = []; part = Block (node.outputs ++ node.block.locals) (map equation_case body) }) (contains_here _ (flat_map (parts_of []) body)) d i).1
