@@ -3,11 +3,9 @@ use Rattle.std.proofs.Common.{◌≡◌, ◌⊎◌, ⊎_elim, ℕ, zero, suc, Bo
 use Rattle.std.specs.Prelude.{not}
 use Rattle.std.specs.List.{flat_map, list_any}
 use Rattle.hept_ast.specs.Texts.{Name, same, is_in}
-use Rattle.hept_ast.specs.Parts.{inside, below}
-use Rattle.hept_ast.specs.Types.{Fit, Fits, Untyped, alike, async_fit, binary_fit, call_fit, divides, get_fit, if_fit, same_tag, type_of_const, unary_fit}
+use Rattle.hept_ast.specs.Parts.{inside}
+use Rattle.hept_ast.specs.Types.{Fit, Untyped, alike, async_fit, binary_fit, call_fit, divides, get_fit, if_fit, same_tag, unary_fit}
 use Rattle.hept_ast.specs.Faults.{Duplicate, Fault, Judged, Judging, NestedAsync, Recursive, UnknownName, ZeroDivisor, barred, both, branch_fit, call_judged, called, calls_lead, calls_of, fault, is_nonzero, judged, lack_faults, lead, merge_fit, nested, node_named, read_faults, type_of_variable, unknown_tag, when_fit}
-use Rattle.hept_ast.specs.declared.name.Place.{Place}
-use Rattle.hept_ast.specs.declared.tree.Const.{Const}
 use Rattle.hept_ast.specs.declared.tree.Decl.{Decl}
 use Rattle.hept_ast.specs.declared.tree.Node.{Node}
 use Rattle.hept_ast.specs.declared.tree.Tag.{Tag}
@@ -23,7 +21,7 @@ use Rattle.erased_rules.proofs.Lists.{flat_append, flat_flat}
 use Rattle.erased_rules.proofs.Judgings.{own_nil, operands_nil}
 use Rattle.naming_rules.proofs.Names.{in_cases}
 use Rattle.naming_rules.proofs.CallsAlike.{judging_in}
-use Rattle.lowering_rules.specs.Lowering.{node_frame, at, Lowers, const, var, last, unary, binary, choice, fby, pre, arrow, when, merge, call, async_call, async_const, get, LowersAll, no_exprs, more_exprs, LowersBranches, no_branches, more_branches}
+use Rattle.lowering_rules.specs.Lowering.{node_frame, Lowers, const, var, last, unary, binary, choice, fby, pre, arrow, when, merge, call, async_call, async_const, get, LowersAll, no_exprs, more_exprs, LowersBranches, no_branches, more_branches}
 
 -- ---- the calls in an expression
 

@@ -1,34 +1,32 @@
 -- What is judged of the equations of an accepted program's node.
-use Rattle.std.proofs.Common.{◌≡◌, ◌⊎◌, ⊎_elim, inl, inr, ℕ, suc, zero, Bool, true, false, not, ◌&&◌, if◌then◌else◌, List, [], ◌∷◌, ◌++◌, map, All, Contains, refl, sym, ap, subst, ◌∙◌, arith, Option, Some, None}
-use Rattle.std.specs.List.{flat_map, list_any, list_all}
+use Rattle.std.proofs.Common.{◌≡◌, ◌⊎◌, ⊎_elim, ℕ, Bool, true, false, not, ◌&&◌, List, [], ◌∷◌, ◌++◌, map, All, Contains, refl, sym, ap, subst, ◌∙◌, Option, Some, None}
+use Rattle.std.specs.List.{flat_map, list_all}
 use Rattle.std.specs.Option.{option_map, option_map_or}
 use Rattle.std.proofs.lemmas.Bool.{false≢true}
 use Rattle.std.proofs.lemmas.List.Elements.{All-nil, All-cons, Contains-append_left, Contains-append_right, Contains-append_cases}
 use Rattle.hept_ast.specs.Texts.{Name, same, is_in, names}
-use Rattle.hept_ast.specs.Scopes.{Clock}
-use Rattle.hept_ast.specs.Parts.{Block, Case, Plain, Placed, declaration, equation_case, expressions, expressions_of, parts, parts_of, seen_at, sets_of, variables}
-use Rattle.hept_ast.specs.Types.{has_tags, is_plain, same_types, tags_of, type_is_known, types_of}
-use Rattle.hept_ast.specs.Faults.{Fault, FutureKept, Judged, Judging, Mismatch, NotDefined, UnknownName, async_nodes, called_async, decl_faults, demanded, fault, faults, fits_left, init_faults, judge_expr, judging, left_faults, left_types, node_faults, node_named, part_faults, second_definitions, seconds, type_of_variable}
+use Rattle.hept_ast.specs.Parts.{Block, Case, Plain, Placed, declaration, equation_case, expressions, parts, parts_of, seen_at}
+use Rattle.hept_ast.specs.Types.{is_plain, type_is_known, types_of}
+use Rattle.hept_ast.specs.Faults.{Fault, FutureKept, Judged, Judging, Mismatch, NotDefined, UnknownName, async_nodes, called_async, decl_faults, demanded, fault, faults, fits_left, init_faults, judge_expr, judging, left_faults, left_types, node_faults, part_faults, second_definitions, seconds}
 use Rattle.hept_ast.specs.declared.name.Place.{Place}
 use Rattle.hept_ast.specs.declared.tree.Program.{Program}
 use Rattle.hept_ast.specs.declared.tree.Node.{Node}
 use Rattle.hept_ast.specs.declared.tree.Decl.{Decl}
 use Rattle.hept_ast.specs.declared.tree.Expr.{Expr}
 use Rattle.hept_ast.specs.declared.tree.Ty.{Ty}
-use Rattle.hept_ast.specs.declared.tree.Equation.{Equation}
 use Rattle.hept_ast.specs.declared.tree.Equation.TheVariants as equation
 use Rattle.hept_ast.specs.TypedValues.{HaveConstructors}
 use Rattle.hept_ast.proofs.JudgeOf.{judge_of}
 use Rattle.hept_ast.proofs.PartsOf.{parts-Define}
 use Rattle.sound_expressions.specs.Demands.{NamesDiffer}
-use Rattle.sound_expressions.proofs.Lists.{nil_left, nil_right, none_of, no_fault, names_differ, same_types_is}
+use Rattle.sound_expressions.proofs.Lists.{nil_left, nil_right, none_of, no_fault, names_differ}
 use Rattle.accepted_meaning.proofs.StaticNodes.{named_node}
 use Rattle.accepted_meaning.proofs.StaticScopes.{some_tag}
 use Rattle.accepted_meaning.proofs.TextLists.{contains_flat, contains_here, contains_there, declared_name, is_in_contains}
 use Rattle.erased_rules.proofs.ByForms.{Each}
 use Rattle.erased_rules.proofs.ErasedNodes.{all_of, of_placed}
 use Rattle.erased_rules.proofs.Judgings.{clean}
-use Rattle.erased_rules.proofs.Totals.{own_of, total}
+use Rattle.erased_rules.proofs.Totals.{total}
 use Rattle.erased_rules.proofs.TypedExpressions.{Plain_outputs, Tags_there, async_at, typed_kept}
 use Rattle.naming_rules.proofs.CallsAlike.{judging_in}
 

@@ -1,8 +1,8 @@
 -- Names on left sides that are defined once, in lists.
-use Rattle.std.proofs.Common.{◌≡◌, ◌⊎◌, ⊎_elim, ℕ, Bool, true, false, ◌||◌, List, [], ◌∷◌, ◌++◌, map, Contains, refl, sym, ap, subst, ◌∙◌}
+use Rattle.std.proofs.Common.{◌≡◌, Bool, true, false, ◌||◌, List, [], ◌∷◌, ◌++◌, map, Contains, refl, ap}
 use Rattle.std.specs.List.{flat_map, list_any}
 use Rattle.std.proofs.lemmas.List.Elements.{All-contains}
-use Rattle.hept_ast.specs.Texts.{Name, same, is_in}
+use Rattle.hept_ast.specs.Texts.{Name, is_in}
 use Rattle.hept_ast.specs.Parts.{equation_case, place_of, sets_of}
 use Rattle.hept_ast.specs.Paths.{AllDiffer, IsAmong, at_head, in_tail}
 use Rattle.hept_ast.specs.Faults.{Duplicate, fault, second_definitions}

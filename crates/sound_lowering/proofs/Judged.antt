@@ -7,7 +7,6 @@ use Rattle.hept_ast.specs.Texts.{Name}
 use Rattle.hept_ast.specs.Parts.{declaration}
 use Rattle.hept_ast.specs.Types.{Fit, Fits, Misfit, Untyped, Plain_type, alike, async_fit, binary_fit, call_fit, divides, get_fit, has_tags, if_fit, same_tag, type_of_const, type_of_tag, unary_fit}
 use Rattle.hept_ast.specs.Faults.{Duplicate, Fault, FutureKept, Judged, Judging, Mismatch, NestedAsync, Recursive, UnknownName, ZeroDivisor, async_nodes, barred, both, branch_fit, call_judged, calls_lead, const_judged, fault, is_kept, is_nonzero, judged, judged_by, judged_of, lack_faults, merge_fit, nested, no_operands, node_named, read_faults, tag_fits, type_of_variable, unknown_tag, unknown_variable, var_judged, when_fit, with_operand, with_own}
-use Rattle.hept_ast.specs.declared.tree.Const.{Const}
 use Rattle.hept_ast.specs.declared.tree.Decl.{Decl}
 use Rattle.hept_ast.specs.declared.tree.Node.{Node}
 use Rattle.hept_ast.specs.declared.tree.Tag.{Tag}

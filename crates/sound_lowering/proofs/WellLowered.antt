@@ -1,5 +1,5 @@
 -- The core that comes of an accepted program is well formed.
-use Rattle.std.proofs.Common.{◌≡◌, ◌⊎◌, ⊎_elim, inl, inr, ℕ, zero, suc, ◌+◌, Bool, true, false, ◌||◌, if◌then◌else◌, List, [], ◌∷◌, ◌++◌, map, length, get_or, All, Contains, Option, Some, None, slice_get, refl, sym, ap, subst, ◌∙◌, append-nil, arith}
+use Rattle.std.proofs.Common.{◌≡◌, ◌⊎◌, ⊎_elim, ℕ, suc, ◌+◌, Bool, true, false, ◌||◌, if◌then◌else◌, List, [], ◌∷◌, ◌++◌, map, get_or, All, Contains, Option, Some, None, slice_get, refl, sym, ap, subst, ◌∙◌, append-nil, arith}
 use Rattle.std.specs.List.{flat_map}
 use Rattle.std.specs.Option.{option_map}
 use Rattle.std.proofs.lemmas.List.{map-append}
@@ -7,10 +7,10 @@ use Rattle.std.proofs.lemmas.List.Elements.{All-nil, All-cons, All-contains, Con
 use Rattle.hept_ast.specs.Texts.{Name, same, is_in, names}
 use Rattle.hept_ast.specs.Scopes.{Clock}
 use Rattle.hept_ast.specs.Paths.{AllDiffer}
-use Rattle.hept_ast.specs.Parts.{Plain, Placed, declaration, expressions_of, inside, parts, parts_of, seen_at, sets_of, variables}
-use Rattle.hept_ast.specs.Clocks.{Assignment, Meets, clock, expression, own_names, term_of, AreClocks}
-use Rattle.hept_ast.specs.Types.{call_fit, same_types, types_of}
-use Rattle.hept_ast.specs.Faults.{Duplicate, Fault, Judged, Judging, UnknownName, called, calls_lead, calls_of, faults, fits_left, judge_expr, left_faults, left_types, node_named, pair_types, type_of_variable, unknown_variable, fault}
+use Rattle.hept_ast.specs.Parts.{Plain, Placed, declaration, expressions_of, inside, parts, parts_of, seen_at, sets_of}
+use Rattle.hept_ast.specs.Clocks.{clock, own_names}
+use Rattle.hept_ast.specs.Types.{call_fit, types_of}
+use Rattle.hept_ast.specs.Faults.{Duplicate, Judged, Judging, UnknownName, called, calls_lead, calls_of, faults, fits_left, judge_expr, left_faults, left_types, node_named, pair_types, type_of_variable, unknown_variable, fault}
 use Rattle.hept_ast.specs.ClockMaps.{clock_in}
 use Rattle.hept_ast.specs.Stages.{ClockedProgram, IsAcceptedProgram}
 use Rattle.hept_ast.specs.declared.name.Place.{Place}
@@ -37,22 +37,22 @@ use Rattle.sound_expressions.proofs.Lists.{nil_left, nil_right, none_of, no_faul
 use Rattle.accepted_meaning.specs.Ranges.{IsInRange, HasLeft}
 use Rattle.accepted_meaning.specs.SoundNodes.{SoundNode, SoundProgram, within}
 use Rattle.accepted_meaning.proofs.StaticNodes.{accepted_is_sound, at_place}
-use Rattle.accepted_meaning.proofs.TextLists.{contains_here, contains_there, contains_cases, contains_flat, contains_is_in, contains_none, declared_name, declared_is_in, flat_is_in, is_in_append, is_in_contains, is_in_declared, not_both}
+use Rattle.accepted_meaning.proofs.TextLists.{contains_here, contains_there, contains_cases, contains_flat, contains_is_in, contains_none, declared_name, declared_is_in, is_in_append, is_in_contains, not_both}
 use Rattle.erased_rules.proofs.ByForms.{Each}
 use Rattle.erased_rules.proofs.Judgings.{clean}
 use Rattle.erased_rules.proofs.Lists.{flat_append}
-use Rattle.erased_rules.proofs.NodesStanding.{Part_stands, Placed_stands, node_if}
+use Rattle.erased_rules.proofs.NodesStanding.{Placed_stands, node_if}
 use Rattle.erased_rules.proofs.Numbering.{if_stands}
 use Rattle.erased_rules.proofs.Standing.{Given, Reading, Stands, under}
 use Rattle.naming_rules.proofs.CallsAlike.{judging_in, no_async}
-use Rattle.naming_rules.proofs.Names.{in_cases, out_left, out_right}
+use Rattle.naming_rules.proofs.Names.{in_cases}
 use Rattle.lowering_rules.specs.Lowering.{without_initial, clock_of_left, LowersNode, LowersNodes, LowersProgram, no_nodes, more_nodes}
 use Rattle.lowering_rules.specs.Ties as ties
 use Rattle.lowering_rules.specs.Ties.{core_equation, TiedEquations, TiedNode, TiedNodes}
-use Rattle.lowering_rules.proofs.Accepted.{accepted_is_tied, is_defined, same_names, tied_equations, variables_are}
+use Rattle.lowering_rules.proofs.Accepted.{accepted_is_tied, is_defined, same_names, variables_are}
 use Rattle.sound_lowering.specs.SoundLaws.{LoweringIsWellFormed}
 use Rattle.sound_lowering.proofs.Called as called_
-use Rattle.sound_lowering.proofs.Called.{Free, SameNodes, calls_in, calls_same, free_calls, lead_differs, lead_nowhere, leads_same}
+use Rattle.sound_lowering.proofs.Called.{SameNodes, calls_in, calls_same, free_calls, lead_differs, lead_nowhere, leads_same}
 use Rattle.sound_lowering.proofs.Clean as clean_
 use Rattle.sound_lowering.proofs.Clean.{CleanEquation, clean_equation}
 use Rattle.sound_lowering.proofs.Defined.{all_differ, defined_once}
