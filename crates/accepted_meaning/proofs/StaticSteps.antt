@@ -1,5 +1,5 @@
--- The clocks of least total length have no steps but those of variables that are seen in the same block, up to reset bodies, on the clock of the steps before.
-use Rattle.std.proofs.Common.{◌≡◌, ℕ, ◌+◌, ◌≤◌, Bool, true, false, ◌||◌, ◌&&◌, cond, if◌then◌else◌, List, [], ◌∷◌, ◌++◌, length, sum_by, refl, sym, ap, subst, ◌∙◌, ◌⊎◌, inl, inr, ⊎_elim, Contains, Option, Some, None, is_some, arith, nat_lt}
+-- The clocks of least total length have no steps but those of variables that are never undefined and seen in the same block, up to reset bodies, on the clock of the steps before.
+use Rattle.std.proofs.Common.{◌≡◌, ℕ, ◌+◌, ◌≤◌, Bool, true, false, not, ◌||◌, ◌&&◌, cond, if◌then◌else◌, List, [], ◌∷◌, ◌++◌, length, sum_by, refl, sym, ap, subst, ◌∙◌, ◌⊎◌, inl, inr, ⊎_elim, Contains, Option, Some, None, is_some, arith, nat_lt}
 use Rattle.std.specs.List.{AllByRecursion as Each, list_any, flat_map}
 use Rattle.std.proofs.lemmas.Bool.{false≢true, and_parts, and_from, lt-ltb, le-ltb}
 use Rattle.std.proofs.lemmas.List.Sums.{sum_by-cons}
@@ -24,9 +24,9 @@ use Rattle.accepted_meaning.proofs.StaticConditions.{Are, CondIn, Ok, Range, Ste
 use Rattle.accepted_meaning.proofs.StaticGroups.{IsPeaked, parts_peaked, peak, peak_in, peak_of}
 use Rattle.accepted_meaning.proofs.TextLists.{contains_cases, contains_here, contains_none, contains_there, contains_is_in, flat_is_in, is_in_flat, mapped}
 
--- ---- the variable of a `when` or `merge` is seen
+-- ---- the variable of a `when` or `merge` is seen and never undefined
 
-step_seen : (k : Within) (site : Surroundings) (U : Name → Type 0) → ((z : Name) (d : Decl) (c : Clock) → Sees k site z d c → U z) → (e : Expr) (c : Clock) (ts : List Ty) → Sound k site e c ts → StepIn U (out-Form e.form)
+step_seen : (k : Within) (site : Surroundings) (U : Name → Type 0) → ((z : Name) (d : Decl) (c : Clock) → Sees k site z d c → k.grade z ≡ false → U z) → (e : Expr) (c : Clock) (ts : List Ty) → Sound k site e c ts → StepIn U (out-Form e.form)
 step_seen k site U h e c ts (is_constant o t n) = subst (StepIn U) (sym o) tt
 step_seen k site U h e c ts (is_async_constant o t n) = subst (StepIn U) (sym o) tt
 step_seen k site U h e c ts (is_variable o s) = subst (StepIn U) (sym o) tt
@@ -37,8 +37,8 @@ step_seen k site U h e c ts (is_if o i s r f) = subst (StepIn U) (sym o) tt
 step_seen k site U h e c ts (is_fby o s r f n) = subst (StepIn U) (sym o) tt
 step_seen k site U h e c ts (is_pre o s f n) = subst (StepIn U) (sym o) tt
 step_seen k site U h e c ts (is_arrow o s r f) = subst (StepIn U) (sym o) tt
-step_seen k site U h e c ts (is_when {c = b} {x = x} {d = d} o v s t i f g) = subst (StepIn U) (sym o) (h x d b v)
-step_seen k site U h e c ts (is_merge {x = x} {d = d} o v i g s a f) = subst (StepIn U) (sym o) (h x d c v)
+step_seen k site U h e c ts (is_when {c = b} {x = x} {d = d} o v s t i f g) = subst (StepIn U) (sym o) (h x d b v g)
+step_seen k site U h e c ts (is_merge {x = x} {d = d} o v i g s a f) = subst (StepIn U) (sym o) (h x d c v g)
 step_seen k site U h e c ts (is_call o n s f l m) = subst (StepIn U) (sym o) tt
 step_seen k site U h e c ts (is_async_call o n s f l m) = subst (StepIn U) (sym o) tt
 step_seen k site U h e c ts (is_get o s f) = subst (StepIn U) (sym o) tt
@@ -112,9 +112,9 @@ module _ (k : Within) (h : Timed k) (x : Name) (x_is : x ≡ peak_of k.node x) w
   abbrev seen_there : Name → Bool
   seen_there z = list_any (λ q. in_group q && seen_here q z) (parts k.node)
 
-  -- a step is used if its variable is seen there on the clock of the steps before it
+  -- a step is used if its variable is seen there on the clock of the steps before it, and never undefined
   abbrev used : Clock → Name → Bool
-  used before z = seen_there z && same_clock (k.clock z) before
+  used before z = (seen_there z && same_clock (k.clock z) before) && not (k.grade z)
 
   abbrev keep : Clock → Clock
   keep c = kept used [] c
@@ -277,11 +277,13 @@ module _ (k : Within) (h : Timed k) (x : Name) (x_is : x ≡ peak_of k.node x) w
       read_is z true o = refl
       read_is z false o = ⊎_elim (λ e. absurd (false≢true e)) (λ e. e) o
 
-      uses : (z : Name) (d : Decl) (c : Clock) → Sees k q.site z d c → UsedAt q z
-      uses z d c s g =
-          and_from (seen_there z) (same_clock (k.clock z) (clock old (read_clock (own q) z)))
-          (any_here (λ q. in_group q && seen_here q z) (parts k.node) q at (and_from (in_group q) (seen_here q z) g (is_seen q z d c s)))
-          (ap (same_clock (k.clock z)) (sym (read_is z (is_in z (own q)) s.outer)) ∙ same_clock_self (k.clock z))
+      uses : (z : Name) (d : Decl) (c : Clock) → Sees k q.site z d c → k.grade z ≡ false → UsedAt q z
+      uses z d c s never g =
+          let on_clock = same_clock (k.clock z) (clock old (read_clock (own q) z)) in
+          and_from (seen_there z && on_clock) (not (k.grade z))
+          (and_from (seen_there z) on_clock (any_here (λ q. in_group q && seen_here q z) (parts k.node) q at (and_from (in_group q) (seen_here q z) g (is_seen q z d c s)))
+          (ap (same_clock (k.clock z)) (sym (read_is z (is_in z (own q)) s.outer)) ∙ same_clock_self (k.clock z)))
+          (ap not never)
 
   -- ---- all conditions
 
@@ -337,11 +339,16 @@ module _ (k : Within) (h : Timed k) (x : Name) (x_is : x ≡ peak_of k.node x) w
 
   step_beside : (q : Placed) → in_group q ≡ true → (before : Clock) (z : Name) → used before z ≡ true → IsSeenBeside k q.site z before
   step_beside q here before z e =
-      let (somewhere, same_there) = and_parts (seen_there z) (same_clock (k.clock z) before) e in
+      let (sampled, defined) = and_parts (seen_there z && same_clock (k.clock z) before) (not (k.grade z)) e in
+      let (somewhere, same_there) = and_parts (seen_there z) (same_clock (k.clock z) before) sampled in
       let (p, p_at, p_is) = any_there (λ q. in_group q && seen_here q z) (parts k.node) somewhere in
       let (there, seen_p) = and_parts (in_group p) (seen_here p z) p_is in
       let (d, sees) = seen_again p z before seen_p (same_clock_is (k.clock z) before same_there) in
-      record { at = p; of_node = p_at; shared = x; here = here; there = there; decl = d; sees = sees }
+      record { at = p; of_node = p_at; shared = x; here = here; there = there; decl = d; sees = sees; defined = not_grade (k.grade z) defined }
+    where
+      not_grade : (b : Bool) → not b ≡ true → b ≡ false
+      not_grade true e = absurd (false≢true e)
+      not_grade false e = refl
 
   steps_beside : (q : Placed) → in_group q ≡ true → (before c : Clock) → AllUsed used before c → AreSeenBeside k q.site before c
   steps_beside q here before [] u = tt

@@ -80,7 +80,7 @@ SoundPart k site (Transition strong states e) = SoundCondition k site e.conditio
 abbrev pub SoundInterface : Within → Decl → Type 0
 SoundInterface k d = (k.clock d.name ≡ []) × (k.grade d.name ≡ false) × SoundInit k d d.init
 
--- a variable that is seen, on a clock, at a part which has a variable of its own in common with a site, so that both stand in one block up to reset bodies
+-- a variable that is seen and never undefined, on a clock, at a part which has a variable of its own in common with a site, so that both stand in one block up to reset bodies
 pub record IsSeenBeside (k : Within) (site : Surroundings) (z : Name) (c : Clock) : Type 0 where
   pub at : Placed
   pub of_node : Contains (parts k.node) at
@@ -89,6 +89,7 @@ pub record IsSeenBeside (k : Within) (site : Surroundings) (z : Name) (c : Clock
   pub there : is_in shared (own_names k.node at.site) ≡ true
   pub decl : Decl
   pub sees : Sees k at.site z decl c
+  pub defined : k.grade z ≡ false
 
 -- each step of a clock names a variable that is seen beside a site, on the clock of the steps before
 abbrev pub AreSeenBeside : Within → Surroundings → (before : Clock) → Clock → Type 0
