@@ -38,6 +38,12 @@ each_of : {A : Type 0} (P : A → Type 0) (xs : List A) → ((x : A) → Contain
 each_of P [] h = tt
 each_of P (x ∷ xs) h = (h x (contains_here x xs), each_of P xs (λ y i. h y (contains_there x y xs i)))
 
+-- a node that an expression of a node calls by async is among those that the program calls so
+pub async_named : (program : Program) (node : Node) → Contains program.nodes node → (e : Expr) → Contains (expressions node) e → (f : Name) → Contains (called_async e.form) f → is_in f (async_nodes program.nodes) ≡ true
+async_named program node i e j f l =
+    is_in_contains f (async_nodes program.nodes)
+    (contains_flat (λ (n : Node). flat_map (λ (e : Expr). called_async e.form) (expressions n)) program.nodes node f i (contains_flat (λ (e : Expr). called_async e.form) (expressions node) e f j l))
+
 -- the types of an equation without faults: those of its left side, which names no variable twice
 pub record CleanEquation (w : Judging) (p : ℕ) (left : List Name) (right : Expr) : Type 0 where
   pub lefts : flat_map (left_faults w p) left ≡ []
@@ -70,7 +76,7 @@ module _ (program : Program) (typed : faults program ≡ []) (constructors : Hav
       one true c k g = refl
       one false c k g = absurd (false≢true (sym g ∙ k))
 
-  plain_outputs : (f : Name) → is_in f (async_nodes program.nodes) ≡ true → Plain_outputs program.nodes f
+  pub plain_outputs : (f : Name) → is_in f (async_nodes program.nodes) ≡ true → Plain_outputs program.nodes f
   plain_outputs f i g e =
       let (none, f_is) = named_node program.nodes f g (λ (m : Node). node_faults program m ≡ []) (none_all program.nodes each_node) e in
       all_plain g.name g.outputs (subst (λ (x : Name). is_in x (async_nodes program.nodes) ≡ true) f_is i) (outputs_of g none)

@@ -4,4 +4,6 @@ pub mod Called
 pub mod Defined
 pub mod Clean
 pub mod NoLast
+pub mod Undefined
 pub mod WellLowered
+pub mod StaticLowered

@@ -83,7 +83,7 @@ type_same (d ∷ ds) x = go (same x d.name) (type_same ds x)
     go true e = refl
     go false e = e
 
-types_same : (ds : List Decl) → types_of (map without_initial ds) ≡ types_of ds
+pub types_same : (ds : List Decl) → types_of (map without_initial ds) ≡ types_of ds
 types_same [] = refl
 types_same (d ∷ ds) = ap (λ (ts : List Ty). d.ty ∷ ts) (types_same ds)
 
@@ -341,7 +341,7 @@ module _ (c : ClockedProgram) (core : Core) (range : IsInRange c.program) (accep
     in_three : (x : Name) (xs ys zs : List Name) → is_in x (xs ++ ys ++ zs) ≡ ((is_in x xs || is_in x ys) || is_in x zs)
     in_three x xs ys zs = is_in_append x (xs ++ ys) zs ∙ ap (λ (b : Bool). b || is_in x zs) (is_in_append x xs ys)
 
-    own_same : (x : Name) → is_in x inner ≡ is_in x outer
+    pub own_same : (x : Name) → is_in x inner ≡ is_in x outer
     own_same x =
         ap (is_in x) names_are ∙ in_three x (names node.inputs) (names node.outputs) (names node.block.locals)
         ∙ or_turned (is_in x (names node.inputs)) (is_in x (names node.outputs)) (is_in x (names node.block.locals))

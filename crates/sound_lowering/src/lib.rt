@@ -1,4 +1,4 @@
-//! The core that comes of an accepted program is well formed.
+//! The core that comes of an accepted program is well formed, and has the static facts.
 #![tactic(auto)]
 
 mod laws;
