@@ -1,47 +1,44 @@
 -- The core that comes of an accepted program has the static facts.
-use Rattle.std.proofs.Common.{◌≡◌, ◌⊎◌, ⊎_elim, inl, inr, ℕ, suc, ◌+◌, Bool, true, false, ◌||◌, if◌then◌else◌, List, [], ◌∷◌, ◌++◌, map, All, Contains, Option, Some, None, slice_get, refl, sym, ap, subst, ◌∙◌, arith, IsTrue}
+use Rattle.std.proofs.Common.{◌≡◌, ◌⊎◌, ⊎_elim, ℕ, suc, ◌+◌, Bool, true, false, ◌||◌, if◌then◌else◌, List, [], ◌∷◌, ◌++◌, map, All, Contains, Some, slice_get, refl, sym, ap, subst, ◌∙◌, arith}
 use Rattle.std.specs.List.{flat_map, list_any, list_all}
 use Rattle.std.proofs.lemmas.Bool.{false≢true}
 use Rattle.std.proofs.lemmas.List.{map-append}
-use Rattle.std.proofs.lemmas.List.Elements.{All-nil, All-cons, All-append, All-contains, Contains-append_left, Contains-append_right}
+use Rattle.std.proofs.lemmas.List.Elements.{All-nil, All-cons, All-append, All-contains, Contains-append_left}
 use Rattle.hept_ast.specs.Texts.{Name, same, is_in, names}
 use Rattle.hept_ast.specs.Scopes.{Clock}
 use Rattle.hept_ast.specs.Parts.{Block, Plain, Placed, declaration, equation_case, expressions, expressions_of, inside, parts, parts_of, seen_at}
 use Rattle.hept_ast.specs.Clocks.{own_names}
-use Rattle.hept_ast.specs.Initial.{AreGrades, AreLeastGrades, grade, right_sides, right_sides_in, unmet_by, unmet_decl, unmet_in, unmet_part}
+use Rattle.hept_ast.specs.Initial.{AreLeastGrades, grade, right_sides, right_sides_in, unmet_by, unmet_decl, unmet_in, unmet_part}
 use Rattle.hept_ast.specs.Types.{is_plain, types_of}
-use Rattle.hept_ast.specs.Faults.{Duplicate, UnknownName, called_async, fault, left_faults, node_named, unknown_variable}
+use Rattle.hept_ast.specs.Faults.{Duplicate, UnknownName, called_async, fault, left_faults, node_named}
 use Rattle.hept_ast.specs.ClockMaps.{clock_in}
 use Rattle.hept_ast.specs.Stages.{ClockedProgram, IsAcceptedProgram}
 use Rattle.hept_ast.specs.declared.name.Place.{Place}
-use Rattle.hept_ast.specs.declared.tree.ClockStep.{ClockStep}
 use Rattle.hept_ast.specs.declared.tree.Core.{Core}
 use Rattle.hept_ast.specs.declared.tree.CoreNode.{CoreNode}
 use Rattle.hept_ast.specs.declared.tree.CoreEquation.{CoreEquation}
 use Rattle.hept_ast.specs.declared.tree.Decl.{Decl}
 use Rattle.hept_ast.specs.declared.tree.Node.{Node}
 use Rattle.hept_ast.specs.declared.tree.Expr.{Expr}
-use Rattle.hept_ast.specs.declared.tree.MergeBranch.{MergeBranch}
 use Rattle.hept_ast.specs.declared.tree.Ty.{Ty}
 use Rattle.hept_ast.specs.declared.tree.TypeDec.{TypeDec}
 use Rattle.hept_ast.specs.declared.tree.Form.{out-Form}
-use Rattle.hept_ast.specs.declared.tree.Form.TheOpen.{Form-F}
 use Rattle.hept_ast.specs.declared.tree.Equation.{Equation}
 use Rattle.hept_ast.specs.declared.tree.Equation.TheVariants as equation
 use Rattle.hept_ast.proofs.PartsOf.{parts-Define}
 use Rattle.core_rules.specs.Cores.{as_interface, core_clock, core_decls}
 use Rattle.core_facts.specs.Undefined.{Among, first, Allows, AreIn, Grades, lists_of, may}
-use Rattle.core_facts.specs.Static.{AreProper, GivesNoFuture, HasBranch, StaticCore, StaticEquation, StaticExpr, StaticNode}
+use Rattle.core_facts.specs.Static.{AreProper, GivesNoFuture, HasBranch, StaticEquation, StaticNode}
 use Rattle.core_facts.proofs.Undefined.{none_of as no_lists}
 use Rattle.sound_expressions.specs.Demands.{FitsForm, NamesDiffer}
-use Rattle.sound_expressions.specs.Sound.{Within, Sees, Sound, SoundBranches, no_branches, a_branch, is_constant, is_async_constant, is_variable, is_last, is_unary, is_binary, is_if, is_fby, is_pre, is_arrow, is_when, is_merge, is_call, is_async_call, is_get}
+use Rattle.sound_expressions.specs.Sound.{Within, Sees, Sound, no_branches, is_constant, is_async_constant, is_variable, is_last, is_unary, is_binary, is_if, is_fby, is_pre, is_arrow, is_when, is_merge, is_call, is_async_call, is_get}
 use Rattle.sound_expressions.proofs.Expressions.{found}
 use Rattle.sound_expressions.proofs.Lists.{nil_left, nil_right, none_of, no_fault}
 use Rattle.accepted_meaning.specs.Ranges.{IsInRange}
 use Rattle.accepted_meaning.specs.SoundNodes.{AreSeenBeside, IsSeenBeside, SoundNode, SoundProgram, within}
 use Rattle.accepted_meaning.proofs.StaticInside.{SoundAt, part_inside}
-use Rattle.accepted_meaning.proofs.StaticNodes.{accepted_is_sound, at_place, named_node}
-use Rattle.accepted_meaning.proofs.TextLists.{contains_cases, contains_flat, contains_here, contains_none, contains_there, contains_is_in, is_in_contains, is_in_declared, is_in_flat, not_both}
+use Rattle.accepted_meaning.proofs.StaticNodes.{accepted_is_sound, at_place}
+use Rattle.accepted_meaning.proofs.TextLists.{contains_cases, contains_flat, contains_here, contains_none, contains_there, is_in_declared}
 use Rattle.erased_rules.proofs.TypedExpressions.{Plain_outputs}
 use Rattle.naming_rules.proofs.CallsAlike.{judging_in}
 use Rattle.naming_rules.proofs.Shapes.{Each}

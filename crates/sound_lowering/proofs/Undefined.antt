@@ -1,8 +1,8 @@
 -- What becomes of an expression may be undefined where the expression may, and demands what it demands.
-use Rattle.std.proofs.Common.{◌≡◌, ◌⊎◌, ⊎_elim, inl, inr, ℕ, Bool, true, false, ◌||◌, if◌then◌else◌, List, [], ◌∷◌, ◌++◌, map, All, refl, sym, ap, subst, ◌∙◌, Option, Some, None}
-use Rattle.std.specs.List.{flat_map, list_any, list_all}
+use Rattle.std.proofs.Common.{◌≡◌, ◌⊎◌, ⊎_elim, inl, inr, ℕ, Bool, true, false, ◌||◌, if◌then◌else◌, List, [], ◌∷◌, ◌++◌, All, refl, sym, ap, subst, ◌∙◌}
+use Rattle.std.specs.List.{flat_map, list_any}
 use Rattle.std.proofs.lemmas.List.Elements.{All-nil, All-cons, All-append, All-head}
-use Rattle.hept_ast.specs.Texts.{Name, is_in}
+use Rattle.hept_ast.specs.Texts.{Name}
 use Rattle.hept_ast.specs.Initial.{grade, unmet, unmet_by}
 use Rattle.hept_ast.specs.Parts.{inside, below}
 use Rattle.hept_ast.specs.Faults.{called_async}
