@@ -1,2 +1,4 @@
 pub mod Buildable
 pub mod Building
+pub mod Grounds
+pub mod Rights
