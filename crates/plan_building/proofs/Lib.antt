@@ -6,3 +6,4 @@ pub mod KeptWithin
 pub mod FormsMore
 pub mod Remembering
 pub mod RightOperands
+pub mod Defining

@@ -1,5 +1,5 @@
 -- One lemma for each memory operator.
-use Rattle.std.proofs.Common.{◌≡◌, ℕ, true, suc, ◌+◌, ◌<◌, ◌≤◌, List, [], ◌∷◌, ◌++◌, Some, refl, sym, subst, ap, ◌∙◌, arith}
+use Rattle.std.proofs.Common.{◌≡◌, ℕ, true, suc, ◌+◌, List, [], ◌∷◌, Some, sym, subst, ap, arith}
 use Rattle.std.specs.Prelude.{slice_get, slice_index}
 use Rattle.hept_ast.specs.Texts.{Name, const_value, is_in, place_in}
 use Rattle.hept_ast.specs.Scopes.{Clock, Scope}
@@ -9,17 +9,12 @@ use Rattle.hept_ast.specs.declared.tree.Expr.{Expr}
 use Rattle.hept_ast.specs.declared.tree.Form.{out-Form}
 use Rattle.hept_ast.specs.declared.tree.Form.TheOpen.{Form-F}
 use Rattle.hept_ast.specs.declared.tree.Form.TheVariants as form
-use Rattle.step_plans.specs.Things.{Thing, Here, Part, Seen, Left, Memory, Value_of, Presence_of}
-use Rattle.step_plans.specs.Operations.{Register, In_values, operation_of}
-use Rattle.step_plans.specs.Plans.{Ground, At, Has, newest, older, left, seen, fby_constant, pre, fby_variable, part, reads_left, reads_seen, arrow, Makes, Progress, MakesAll, computes, IsQuiet}
-use Rattle.step_plans.specs.declared.instruction.Instruction.{Instruction}
+use Rattle.step_plans.specs.Things.{Seen, Left, Value_of, Presence_of}
+use Rattle.step_plans.specs.Plans.{Ground, left, seen, fby_constant, pre, fby_variable, reads_left, reads_seen, arrow}
 use Rattle.step_plans.specs.declared.instruction.Instruction.TheVariants as does
-use Rattle.step_plans.specs.declared.action.Action.{Action}
-use Rattle.step_plans.specs.declared.action.Action.TheVariants as act
 use Rattle.step_plans.proofs.FormsOut.{const_form, fby_form, var_form}
 use Rattle.plan_building.proofs.FormsMore.{pre_form, arrow_form}
-use Rattle.step_plans.proofs.Making.{one_action_more}
-use Rattle.plan_building.specs.Building.{Emitted, Emits, HaveRegisters, IsAdded, KnowsMore, Leads}
+use Rattle.plan_building.specs.Building.{Emits, IsAdded, KnowsMore}
 use Rattle.plan_building.specs.Grounds.{fby_memories, right_memories}
 use Rattle.plan_building.specs.Rights.{EmitsRight, HasCells}
 use Rattle.plan_building.specs.declared.draft.Draft.{Draft}
