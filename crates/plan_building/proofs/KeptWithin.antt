@@ -24,7 +24,7 @@ keeps_one registers old mid new i ra r of_a added within cells below all =
     let x = of_a cells below all in
     (added_within cells mid new i r added (within mid.at cells x.2) x.0, omega (arith, x.1, added.next), omega (arith, added.register, added.next))
 
-below_later : (registers : List ℕ) (at later : ℕ) → at ≤ later → All (λ q. q < at) registers → All (λ q. q < later) registers
+pub below_later : (registers : List ℕ) (at later : ℕ) → at ≤ later → All (λ q. q < at) registers → All (λ q. q < later) registers
 below_later registers at later le below = λ k d lt. omega (arith, below k d lt)
 
 pub keeps_two : (registers : List ℕ) (old one mid new : Draft) (i : Instruction) (ra rb r : ℕ) → KeepsWithin registers old one ra → KeepsWithin registers one mid rb → IsAdded mid new i r →

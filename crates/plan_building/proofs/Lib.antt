@@ -7,3 +7,4 @@ pub mod FormsMore
 pub mod Remembering
 pub mod RightOperands
 pub mod Defining
+pub mod KeptCells

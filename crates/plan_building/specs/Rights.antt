@@ -1,17 +1,19 @@
 -- What is built for the right side of an equation: memory operators read their cells.
-use Rattle.std.specs.Prelude.{◌≡◌, ℕ, suc, true, List, [], ◌∷◌, Some, slice_get}
+use Rattle.std.specs.Prelude.{◌≡◌, ℕ, suc, ◌+◌, ◌<◌, ◌≤◌, true, List, [], ◌∷◌, All, Some, slice_get}
 use Rattle.hept_ast.specs.Texts.{Name, is_in}
 use Rattle.hept_ast.specs.Scopes.{Clock, Scope}
 use Rattle.hept_ast.specs.declared.tree.TypeDec.{TypeDec}
 use Rattle.hept_ast.specs.declared.tree.Const.{Const}
 use Rattle.hept_ast.specs.declared.tree.Expr.{Expr}
-use Rattle.hept_ast.specs.declared.tree.Form.{out-Form}
+use Rattle.hept_ast.specs.declared.tree.MergeBranch.{MergeBranch}
+use Rattle.hept_ast.specs.declared.tree.Form.{Form, out-Form}
+use Rattle.hept_ast.specs.declared.tree.Form.TheOpen.{Form-F}
 use Rattle.hept_ast.specs.declared.tree.Form.TheVariants as form
 use Rattle.step_plans.specs.Things.{Here, Part, Memory}
 use Rattle.step_plans.specs.Operations.{Register}
 use Rattle.step_plans.specs.Plans.{Ground, Has, Progress, IsQuiet}
 use Rattle.plan_building.specs.Buildable.{Computable}
-use Rattle.plan_building.specs.Building.{Emitted, HaveRegisters, Leads}
+use Rattle.plan_building.specs.Building.{AreActionsWithin, Emitted, HaveRegisters, Leads}
 use Rattle.plan_building.specs.Grounds.{right_memories}
 use Rattle.plan_building.specs.declared.draft.Draft.{Draft}
 
@@ -39,3 +41,18 @@ EmitsStarted variables registers cell old new x r = (types : List TypeDec) (e a 
 
 abbrev pub EmitsArrow : List TypeDec → List Name → (registers : List ℕ) → (cell : ℕ) → (old new : Draft) → (first later : Expr) → (r : ℕ) → Type 0
 EmitsArrow types variables registers cell old new a b r = (e : Expr) → e.form ≡ form.Arrow a b → EmitsRight types variables registers cell old new e r
+
+-- how many cells a right side has
+abbrev pub start_cells : Form-F Form Expr MergeBranch → ℕ
+start_cells (Form-F.Const k) = 1
+start_cells _ = 2
+
+abbrev pub right_cells : Form-F Form Expr MergeBranch → ℕ
+right_cells (Form-F.Fby a b) = start_cells (out-Form a.form)
+right_cells (Form-F.Pre a) = 1
+right_cells (Form-F.Arrow a b) = 1
+right_cells _ = 0
+
+-- what the actions name is there, where so many cells from this one on are
+abbrev pub KeepsCells : (count cell : ℕ) → (registers : List ℕ) → (old new : Draft) → (r : ℕ) → Type 0
+KeepsCells count cell registers old new r = (cells : ℕ) → cell + count ≤ cells → All (λ q. q < old.at) registers → AreActionsWithin cells old → AreActionsWithin cells new × (old.at ≤ new.at) × (r < new.at)

@@ -1,8 +1,9 @@
 //! The instructions of a right side. Its memory operators read their cells.
 ghost use Rattle.std.specs.Prelude.{◌≡◌, ◌<◌, ◌+◌, ◌^◌, true, IfOk, length};
 ghost use Rattle.hept_ast.specs.Texts.{is_in};
+ghost use Rattle.hept_ast.specs.declared.tree.Form.{out-Form};
 ghost use Rattle.plan_building.specs.Buildable.{Computable};
-ghost use Rattle.plan_building.specs.Rights.{EmitsRight, EmitsStarted, EmitsArrow, IsRight};
+ghost use Rattle.plan_building.specs.Rights.{EmitsRight, EmitsStarted, EmitsArrow, IsRight, KeepsCells, right_cells};
 
 use crate::constants::position;
 use crate::draft::Draft;
@@ -21,7 +22,8 @@ fn emit_started(
     requires known { length registers.now ≡ length variables.now }
     requires among { is_in x.now variables.now ≡ true }
     requires cells { cell + 1 < 2 ^ 32 }
-    ensures { IfOk result (EmitsStarted variables.now registers.now cell draft.old draft.new x.now) }
+    ensures emits { IfOk result (EmitsStarted variables.now registers.now cell draft.old draft.new x.now) }
+    ensures within { IfOk result (KeepsCells 2 cell registers.now draft.old draft.new) }
 {
     let first = registers[position(variables, x)];
     let seen = draft.add(Instruction::Read(cell + 1))?;
@@ -42,7 +44,8 @@ fn emit_arrow(
     requires known { length registers.now ≡ length variables.now }
     requires first { Computable types.now variables.now a.now }
     requires later { Computable types.now variables.now b.now }
-    ensures { IfOk result (EmitsArrow types.now variables.now registers.now cell draft.old draft.new a.now b.now) }
+    ensures emits { IfOk result (EmitsArrow types.now variables.now registers.now cell draft.old draft.new a.now b.now) }
+    ensures within { IfOk result (KeepsCells 1 cell registers.now draft.old draft.new) }
 {
     let seen = draft.add(Instruction::Read(cell))?;
     let first = emit(a, types, variables, registers, draft)?;
@@ -62,7 +65,8 @@ pub fn emit_right(
     requires known { length registers.now ≡ length variables.now }
     requires right { IsRight types.now variables.now e.now }
     requires cells { cell + 1 < 2 ^ 32 }
-    ensures { IfOk result (EmitsRight types.now variables.now registers.now cell draft.old draft.new e.now) }
+    ensures emits { IfOk result (EmitsRight types.now variables.now registers.now cell draft.old draft.new e.now) }
+    ensures within { IfOk result (KeepsCells (right_cells (out-Form e.now.form)) cell registers.now draft.old draft.new) }
 {
     match &e.form {
         Form::Fby(a, _) => match &a.get().form {

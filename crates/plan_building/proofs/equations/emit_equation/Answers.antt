@@ -5,5 +5,5 @@ use Rattle.plan_building.proofs.equations.emit_equation.Goals as goal
 
 pub returns : goal.returns
 returns c =
-    let emits = subst (λ (rs : List ℕ). EmitsRight c.args.types.now c.args.variables.now rs c.args.cell c.args.draft.now c.emit_right.new.draft c.args.e.now.right c.in_ok-value.value) c.as_slice.ensures.value c.in_ok-value.ensures in
+    let emits = subst (λ (rs : List ℕ). EmitsRight c.args.types.now c.args.variables.now rs c.args.cell c.args.draft.now c.emit_right.new.draft c.args.e.now.right c.in_ok-value.value) c.as_slice.ensures.value c.in_ok-value.ensures.emits in
     one_equation_more c.args.types.now c.args.variables.now c.args.cell c.in_ok-value.value c.args.e.now c.args.registers.now.items c.push.new.self.items c.args.draft.now c.emit_right.new.draft c.requires.known emits (search rules)
