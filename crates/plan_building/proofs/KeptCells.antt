@@ -1,6 +1,7 @@
 -- What the actions of a right side name is there.
-use Rattle.std.proofs.Common.{◌≡◌, ℕ, ◌+◌, ◌<◌, true, List, length, sym, subst, ap, ◌∙◌, arith}
+use Rattle.std.proofs.Common.{◌≡◌, ℕ, ◌+◌, ◌<◌, true, List, length, sym, subst, ap, ◌∙◌, arith, [], ◌∷◌, ◌++◌, All}
 use Rattle.std.specs.Prelude.{slice_index}
+use Rattle.std.proofs.lemmas.List.Elements.{All-push}
 use Rattle.hept_ast.specs.Texts.{Name, is_in, place_in}
 use Rattle.hept_ast.specs.declared.tree.Const.{Const}
 use Rattle.hept_ast.specs.declared.tree.Expr.{Expr}
@@ -10,6 +11,7 @@ use Rattle.step_plans.specs.declared.instruction.Instruction.TheVariants as does
 use Rattle.step_plans.proofs.FormsOut.{const_form, fby_form, var_form}
 use Rattle.plan_building.specs.Building.{IsAdded, KeepsWithin}
 use Rattle.plan_building.specs.Rights.{KeepsCells, right_cells, start_cells}
+use Rattle.plan_building.specs.Equations.{KeepsEquation}
 use Rattle.plan_building.specs.declared.draft.Draft.{Draft}
 use Rattle.plan_building.proofs.FormsMore.{pre_form, arrow_form}
 use Rattle.plan_building.proofs.KeptWithin.{below_later, keeps_variable}
@@ -57,3 +59,8 @@ cells_previous e a is = ap right_cells (pre_form e a is)
 
 pub cells_arrow : (e a b : Expr) → e.form ≡ form.Arrow a b → right_cells (out-Form e.form) ≡ 1
 cells_arrow e a b is = ap right_cells (arrow_form e a b is)
+
+pub keeps_equation : (count cell : ℕ) (registers more : List ℕ) (old new : Draft) (r : ℕ) → KeepsCells count cell registers old new r → more ≡ registers ++ r ∷ [] → KeepsEquation count cell registers old more new
+keeps_equation count cell registers more old new r keeps longer cells le below all =
+    let x = keeps cells le below all in
+    (x.0, x.1, subst (λ (rs : List ℕ). All (λ q. q < new.at) rs) (sym longer) (All-push (λ q. q < new.at) registers r (λ k d lt. omega (arith, below k d lt, x.1)) x.2))

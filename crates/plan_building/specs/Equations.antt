@@ -1,5 +1,5 @@
 -- What is built for the equations of a node, on the base clock and without resets.
-use Rattle.std.specs.Prelude.{◌≡◌, ℕ, false, List, [], ◌∷◌, ◌++◌, Some}
+use Rattle.std.specs.Prelude.{◌≡◌, ℕ, ◌+◌, ◌<◌, ◌≤◌, false, List, [], ◌∷◌, ◌++◌, All, Some}
 use Rattle.hept_ast.specs.Texts.{Name, is_in, names}
 use Rattle.hept_ast.specs.Scopes.{Scope, Under, equation_of}
 use Rattle.hept_ast.specs.declared.tree.TypeDec.{TypeDec}
@@ -9,7 +9,7 @@ use Rattle.hept_ast.specs.declared.tree.Form.{out-Form}
 use Rattle.step_plans.specs.Things.{Here}
 use Rattle.step_plans.specs.Operations.{In_values}
 use Rattle.step_plans.specs.Plans.{Ground, Has, Progress, top_of}
-use Rattle.plan_building.specs.Building.{HaveRegisters, Leads}
+use Rattle.plan_building.specs.Building.{AreActionsWithin, HaveRegisters, Leads}
 use Rattle.plan_building.specs.Grounds.{right_memories}
 use Rattle.plan_building.specs.Rights.{HasCells}
 use Rattle.plan_building.specs.declared.draft.Draft.{Draft}
@@ -39,3 +39,7 @@ pub record IsBuilt (g : Ground) (node : CoreNode) (start : Progress) (draft : Dr
 abbrev pub BuildsEquation : List TypeDec → List Name → (cell : ℕ) → CoreEquation → (old_registers : List ℕ) → Draft → (registers : List ℕ) → Draft → Type 0
 BuildsEquation types variables cell e old_registers old registers new = (g : Ground) (node : CoreNode) (x : Name) (start : Progress) → IsFound node e x → g.types ≡ types → HasCells g cell (right_memories types (out-Form e.right.form) [] (inside node)) →
     IsBuilt g node start old variables old_registers → IsBuilt g node start new (variables ++ x ∷ []) registers
+
+-- what the actions name is there, where so many cells from this one on are, and so are the values of all variables
+abbrev pub KeepsEquation : (count cell : ℕ) → (old_registers : List ℕ) → Draft → (registers : List ℕ) → Draft → Type 0
+KeepsEquation count cell old_registers old registers new = (cells : ℕ) → cell + count ≤ cells → All (λ q. q < old.at) old_registers → AreActionsWithin cells old → AreActionsWithin cells new × (old.at ≤ new.at) × All (λ q. q < new.at) registers

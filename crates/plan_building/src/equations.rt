@@ -1,7 +1,8 @@
 //! The instructions of an equation on the base clock without resets.
 ghost use Rattle.std.specs.Prelude.{◌≡◌, ◌<◌, ◌+◌, ◌^◌, OnOk, length};
-ghost use Rattle.plan_building.specs.Equations.{BuildsEquation};
-ghost use Rattle.plan_building.specs.Rights.{IsRight};
+ghost use Rattle.hept_ast.specs.declared.tree.Form.{out-Form};
+ghost use Rattle.plan_building.specs.Equations.{BuildsEquation, KeepsEquation};
+ghost use Rattle.plan_building.specs.Rights.{IsRight, right_cells};
 
 use crate::draft::Draft;
 use crate::rights::emit_right;
@@ -21,7 +22,8 @@ pub fn emit_equation(
     requires known { length registers.old.items ≡ length variables.now }
     requires right { IsRight types.now variables.now e.now.right }
     requires cells { cell + 1 < 2 ^ 32 }
-    ensures { OnOk result (BuildsEquation types.now variables.now cell e.now registers.old.items draft.old registers.new.items draft.new) }
+    ensures builds { OnOk result (BuildsEquation types.now variables.now cell e.now registers.old.items draft.old registers.new.items draft.new) }
+    ensures within { OnOk result (KeepsEquation (right_cells (out-Form e.now.right.form)) cell registers.old.items draft.old registers.new.items draft.new) }
 {
     let value = emit_right(
         &e.right,
