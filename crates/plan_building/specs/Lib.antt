@@ -1,0 +1,5 @@
+pub mod Buildable
+pub mod Building
+pub mod Grounds
+pub mod Rights
+pub mod Equations
