@@ -1,0 +1,14 @@
+pub mod Views
+pub mod CutSteps
+pub mod StepsInside
+pub mod Weights
+pub mod CutRights
+pub mod Sizes
+pub mod NewNames
+pub mod TypedOperands
+pub mod NamedTypes
+pub mod AddedNames
+pub mod TypesGiven
+pub mod Found
+pub mod OneType
+pub mod Settling
