@@ -1,0 +1,9 @@
+use Rattle.std.proofs.lemmas.Result.{IfOk-weaker}
+use Rattle.core_making.proofs.Chains.{made_means}
+use Rattle.core_making.proofs.making.make_core.Goals as goal
+
+pub returns : goal.returns
+returns c = record {
+  means =
+      IfOk-weaker c.order.result _ _ (λ made h. made_means c.args.accepted.now c.in_ok-core.core c.in_ok-normal.normal made c.in_ok-core.ensures.means c.in_ok-normal.ensures.normalised h) c.order.ensures.meaning;
+}

@@ -1,0 +1,38 @@
+ghost use Rattle.std.specs.Prelude.{IfOk};
+ghost use Rattle.hept_ast.specs.Stages.{IsAcceptedProgram};
+ghost use Rattle.accepted_meaning.specs.Ranges.{IsInRange};
+ghost use Rattle.core_making.specs.Made.{LowersWell, MeansProgram};
+ghost use Rattle.lowering_rules.specs.PlainPrograms.{IsPlainProgram};
+
+use hept_ast::{Accepted, Core, Memory};
+use normal_form::normalise;
+use reset_lowering::lower_blocks;
+use schedule::{Ordered, order};
+use std::alloc::Global;
+
+fn check_accepted(accepted: &Accepted)
+    ensures accepted { IsAcceptedProgram accepted.now }
+{
+    accepted.program();
+}
+
+/// A lowered core, with what the laws say of it.
+fn lowered(alloc: Global, accepted: &Accepted) -> Result<Core, Memory>
+    requires plain { IsPlainProgram accepted.now.program }
+    requires range { IsInRange accepted.now.program }
+    ensures { IfOk result (λ core. LowersWell accepted.now core) }
+{
+    check_accepted(accepted);
+    lower_blocks(alloc, accepted)
+}
+
+/// The core of an accepted program of equations alone, in normal form and in order.
+pub fn make_core(alloc: Global, accepted: &Accepted) -> Result<Ordered, Memory>
+    requires plain { IsPlainProgram accepted.now.program }
+    requires range { IsInRange accepted.now.program }
+    ensures means { IfOk result (λ made. MeansProgram accepted.now made) }
+{
+    let core = lowered(alloc, accepted)?;
+    let normal = normalise(alloc, core)?;
+    order(alloc, normal)
+}
