@@ -41,7 +41,7 @@ use Rattle.accepted_meaning.proofs.StaticNodes.{accepted_is_sound, at_place}
 use Rattle.accepted_meaning.proofs.TextLists.{contains_cases, contains_flat, contains_here, contains_none, contains_there, is_in_declared}
 use Rattle.erased_rules.proofs.TypedExpressions.{Plain_outputs}
 use Rattle.naming_rules.proofs.CallsAlike.{judging_in}
-use Rattle.naming_rules.proofs.Shapes.{Each}
+use Rattle.naming_rules.proofs.Lists.{each_of}
 use Rattle.lowering_rules.specs.Lowering.{without_initial, clock_of_left, LowersNode, LowersNodes, LowersProgram, no_nodes, more_nodes}
 use Rattle.lowering_rules.specs.Ties as ties
 use Rattle.lowering_rules.specs.Ties.{core_equation, TiedEquations, TiedNode, TiedNodes}
@@ -52,10 +52,6 @@ use Rattle.sound_lowering.proofs.Undefined.{Facts, empty_lists, from_start, grad
 use Rattle.sound_lowering.proofs.WellLowered.{own_same, types_same}
 
 -- ---- lists
-
-each_of : {A : Type 0} (P : A → Type 0) (xs : List A) → ((x : A) → Contains xs x → P x) → Each P xs
-each_of P [] h = tt
-each_of P (x ∷ xs) h = (h x (contains_here x xs), each_of P xs (λ y i. h y (contains_there x y xs i)))
 
 all_of : {A : Type 0} (P : A → Type 0) (xs : List A) → ((x : A) → Contains xs x → P x) → All P xs
 all_of P [] h = All-nil P
