@@ -3,13 +3,15 @@ use Rattle.std.proofs.Common.{◌≡◌, ℕ, suc, ◌≤◌, List, [], ◌∷�
 use Rattle.hept_ast.specs.Texts.{Name}
 use Rattle.hept_ast.specs.Scopes.{Scope, Called, Under, calls_around}
 use Rattle.hept_ast.specs.Meaning.{Setting}
+use Rattle.hept_ast.specs.Settings.{written_node}
 use Rattle.hept_ast.specs.Sites.{Piece, Body, Site, pieces, own_site, SitesOf, whole, SitesOfAll, none, first}
-use Rattle.lowering_rules.specs.Ties.{Sides, called}
+use Rattle.lowering_rules.specs.Ties.{Sides}
+use Rattle.lowering_rules.specs.TiedScopes.{called}
 use Rattle.lowering_rules.proofs.TiedTexts.{TiedOption}
 use Rattle.lowering_rules.proofs.Orders.{Ordered, Numbered, AllNumbered, each_append, wider, outwards, both_ordered, grows}
 use Rattle.lowering_rules.proofs.TiedPieces.{TiedSites, no_sites, sites_append, TiedPiece, expression, statement, call_body, TiedPieces, no_pieces, more_pieces, one_on, Inner, expression_inner, statement_inner, body_inner}
 
-module _ (z : Sides) (w v : Setting) (is : w.clock ≡ z.clock) (nodes : (f : Name) → TiedOption z (w.node f) (v.node f)) where
+module _ (z : Sides) (w v : Setting) (is : w.clock ≡ z.clock) (names : (f : Name) → written_node z.nodes 0 f ≡ w.node f) (nodes : (f : Name) → TiedOption z (w.node f) (v.node f)) where
   -- the sites in the core, tied to those of the program
   pub record Found (path : List ℕ) (n m : ℕ) (q : Piece) (sites : List Site) : Type 0 where
     pub others : List Site
@@ -28,7 +30,7 @@ module _ (z : Sides) (w v : Setting) (is : w.clock ≡ z.clock) (nodes : (f : Na
   piece_grows : {path : List ℕ} {n m : ℕ} {p q : Piece} → TiedPiece z path n m p q → n ≤ m
   piece_grows (expression h l) = grows l
   piece_grows (statement h l on) = grows l
-  piece_grows (call_body h l t) = omega arith
+  piece_grows (call_body h l t i) = omega arith
 
   pieces_grow : {path : List ℕ} {n m : ℕ} {ps qs : List Piece} → TiedPieces z path n m ps qs → n ≤ m
   pieces_grow no_pieces = omega arith
@@ -36,7 +38,7 @@ module _ (z : Sides) (w v : Setting) (is : w.clock ≡ z.clock) (nodes : (f : Na
   pieces_grow (one_on {n = n} {m = m} h) = let i : suc n ≤ m = pieces_grow h in omega arith
 
   -- own sites and those of the pieces behind them
-  found_whole : (path : List ℕ) (n m : ℕ) (p q : Piece) (sites : List Site) (h : Inner z w v is nodes path n m p q) → FoundAll path h.middle m (pieces v q) sites → n ≤ h.middle →
+  found_whole : (path : List ℕ) (n m : ℕ) (p q : Piece) (sites : List Site) (h : Inner z w v is names nodes path n m p q) → FoundAll path h.middle m (pieces v q) sites → n ≤ h.middle →
       Found path n m q (own_site w p ++ sites)
   found_whole path n m p q sites h a low =
       let top : h.middle ≤ m = pieces_grow h.inner in
@@ -64,13 +66,13 @@ module _ (z : Sides) (w v : Setting) (is : w.clock ≡ z.clock) (nodes : (f : Na
   mutual
     pub found_of : (path : List ℕ) (n m : ℕ) (p q : Piece) (sites : List Site) → TiedPiece z path n m p q → SitesOf w p sites → Found path n m q sites
     found_of _ n m _ _ _ (expression {e = e} {d = d} {c = c} {s = s} {r = r} h l) (whole {sites = ss} k) =
-        let i = expression_inner z w v is nodes c s r h l in
+        let i = expression_inner z w v is names nodes c s r h l in
         found_whole (calls_around r) n m _ _ ss i (found_all (calls_around r) i.middle m _ _ ss i.inner k) i.low
     found_of _ n m _ _ _ (statement {p = p} {left = left} {c = c} {s = s} {r = r} h l on) (whole {sites = ss} k) =
-        let i = statement_inner z w v is nodes p left c s r h l (on w is) in
+        let i = statement_inner z w v is names nodes p left c s r h l (on w is) in
         found_whole (calls_around r) n m _ _ ss i (found_all (calls_around r) i.middle m _ _ ss i.inner k) i.low
-    found_of _ _ _ _ _ _ (call_body {s = s} {r = r} {c = c} {p = p} {n = n} {es = es} {rs = rs} {text = text} {low = low} h l t) (whole {sites = ss} k) =
-        let b = body_inner z w v is nodes (Called s c p es text) (Called (Under r []) c n rs low) (called h l t) in
+    found_of _ _ _ _ _ _ (call_body {s = s} {r = r} {c = c} {p = p} {n = n} {es = es} {rs = rs} {text = text} {low = low} h l t i) (whole {sites = ss} k) =
+        let b = body_inner z w v is names nodes (Called s c p es text) (Called (Under r []) c n rs low) (called h l t i) in
         found_body (calls_around r) n b.0 (Called s c p es text) (Called (Under r []) c n rs low) ss (found_all (calls_around r ++ n ∷ []) 0 b.0 _ _ ss b.1 k)
 
     pub found_all : (path : List ℕ) (n m : ℕ) (ps qs : List Piece) (sites : List Site) → TiedPieces z path n m ps qs → SitesOfAll w ps sites → FoundAll path n m qs sites
@@ -92,13 +94,13 @@ module _ (z : Sides) (w v : Setting) (is : w.clock ≡ z.clock) (nodes : (f : Na
   mutual
     pub back_of : (path : List ℕ) (n m : ℕ) (p q : Piece) (sites : List Site) → TiedPiece z path n m p q → SitesOf v q sites → HasSites p
     back_of _ n m p _ _ (expression {e = e} {d = d} {c = c} {s = s} {r = r} h l) (whole {sites = ss} k) =
-        let i = expression_inner z w v is nodes c s r h l in
+        let i = expression_inner z w v is names nodes c s r h l in
         let a = back_all (calls_around r) i.middle m _ _ ss i.inner k in (own_site w p ++ a.0, whole a.1)
     back_of _ n m x _ _ (statement {p = p} {left = left} {c = c} {s = s} {r = r} h l on) (whole {sites = ss} k) =
-        let i = statement_inner z w v is nodes p left c s r h l (on w is) in
+        let i = statement_inner z w v is names nodes p left c s r h l (on w is) in
         let a = back_all (calls_around r) i.middle m _ _ ss i.inner k in (own_site w x ++ a.0, whole a.1)
-    back_of _ _ _ _ _ _ (call_body {s = s} {r = r} {c = c} {p = p} {n = n} {es = es} {rs = rs} {text = text} {low = low} h l t) (whole {sites = ss} k) =
-        let b = body_inner z w v is nodes (Called s c p es text) (Called (Under r []) c n rs low) (called h l t) in
+    back_of _ _ _ _ _ _ (call_body {s = s} {r = r} {c = c} {p = p} {n = n} {es = es} {rs = rs} {text = text} {low = low} h l t i) (whole {sites = ss} k) =
+        let b = body_inner z w v is names nodes (Called s c p es text) (Called (Under r []) c n rs low) (called h l t i) in
         let a = back_all (calls_around r ++ n ∷ []) 0 b.0 _ _ ss b.1 k in (a.0, whole a.1)
 
     pub back_all : (path : List ℕ) (n m : ℕ) (ps qs : List Piece) (sites : List Site) → TiedPieces z path n m ps qs → SitesOfAll v qs sites → AllHaveSites ps

@@ -5,17 +5,19 @@ use Rattle.hept_ast.specs.Texts.{Name}
 use Rattle.hept_ast.specs.Scopes.{Clock, Text, Written, Lowered, Top, outputs_of}
 use Rattle.hept_ast.specs.Meaning.{Variable, Value, Setting}
 use Rattle.hept_ast.specs.Outputs.{Knows, HaveValues, OutputsFrom, Outputs}
-use Rattle.hept_ast.specs.Settings.{Marks, of_core, of_program, no_replies}
+use Rattle.hept_ast.specs.Settings.{Marks, Replies, of_core, of_program, no_replies}
 use Rattle.hept_ast.specs.Stages.{ClockedProgram}
 use Rattle.hept_ast.specs.ClockMaps.{clock_in}
 use Rattle.hept_ast.specs.declared.tree.Core.{Core}
 use Rattle.hept_ast.specs.declared.tree.CoreNode.{CoreNode}
 use Rattle.hept_ast.specs.declared.tree.Node.{Node}
 use Rattle.hept_ast.specs.declared.tree.TypeDec.{TypeDec}
-use Rattle.lowering_rules.specs.LoweringLaws.{LoweringKeepsOutputs}
-use Rattle.lowering_rules.specs.Ties.{Sides, TiedNode, TiedNodes, no_nodes, more_nodes, TiedText, tied_text, top}
+use Rattle.lowering_rules.specs.LoweringLaws.{LoweringKeepsOutputs, LoweringKeepsReplied}
+use Rattle.lowering_rules.specs.CallPaths.{Agree}
+use Rattle.lowering_rules.specs.Ties.{TiedNode, TiedNodes, no_nodes, more_nodes, TiedText, tied_text}
+use Rattle.lowering_rules.specs.TiedScopes.{top}
 use Rattle.lowering_rules.proofs.TiedTexts.{outputs_same}
-use Rattle.lowering_rules.proofs.TiedQuestions.{w, v, variable, the_body, sides_of, Agree}
+use Rattle.lowering_rules.proofs.TiedQuestions.{w, v, variable, the_body, sides_of}
 use Rattle.lowering_rules.proofs.Known.{knows_there, knows_back}
 use Rattle.lowering_rules.proofs.Accepted.{accepted_is_tied}
 
@@ -55,33 +57,42 @@ module _ (a b : Setting) (rows : List (List ℕ)) (text low : Text)
   outputs_carried e t (row ∷ left) (out ∷ outs) k =
       (subst (λ (ys : List Name). HaveValues b rows (map (λ y. Variable y (Top low) t) ys) out) (sym e) (values_carried t (outputs_of text) out k.0), outputs_carried e (suc t) left outs k.1)
 
-pub no_agree : (z : Sides) → Agree z no_replies no_replies
-no_agree z s r h p n i = refl
+-- the nodes at one position have tied texts
+pub texts_at : (c : ClockedProgram) (core : Core) (chosen : Text) → TiedNodes (clock_in c.clocks) 0 c.program.nodes core.nodes → (k : ℕ) (node : Node) (low : CoreNode) →
+    slice_get c.program.nodes k ≡ Some node → slice_get core.nodes k ≡ Some low → TiedText (sides_of c core chosen) (Written k node) (Lowered low)
+texts_at c core chosen nodes k node low at low_at =
+    let e : k ≡ 0 + k = omega arith in
+    tied_text at low_at (at_position (clock_in c.clocks) 0 k k c.program.nodes core.nodes node low nodes e at low_at)
 
-module _ (c : ClockedProgram) (core : Core) (marked : Marks) (nodes : TiedNodes (clock_in c.clocks) 0 c.program.nodes core.nodes) where
+module _ (c : ClockedProgram) (core : Core) (chosen : Text) (nodes : TiedNodes (clock_in c.clocks) 0 c.program.nodes core.nodes) (marked : Marks) (replies others : Replies)
+    (agree : Agree c.program.nodes chosen replies others) where
   abbrev pub first : Setting
-  first = w c core nodes marked no_replies no_replies (no_agree (sides_of c core))
+  first = w c core chosen nodes marked replies others agree
 
   abbrev pub second : Setting
-  second = v c core nodes marked no_replies no_replies (no_agree (sides_of c core))
+  second = v c core chosen nodes marked replies others agree
 
-  pub chosen : (k : ℕ) (node : Node) (low : CoreNode) → slice_get c.program.nodes k ≡ Some node → slice_get core.nodes k ≡ Some low → TiedText (sides_of c core) (Written k node) (Lowered low)
-  chosen k node low at low_at =
-      let e : k ≡ 0 + k = omega arith in
-      tied_text at low_at (at_position (clock_in c.clocks) 0 k k c.program.nodes core.nodes node low nodes e at low_at)
-
-  outputs_both : (text low : Text) → TiedText (sides_of c core) text low → (rows outs : List (List ℕ)) → Outputs first text rows outs ↔ Outputs second low rows outs
-  outputs_both text low j rows outs = (
-    outputs_carried first second rows text low
-        (λ y t u l. knows_there c core nodes marked no_replies no_replies (no_agree (sides_of c core)) rows _ _ (Value u) (variable (top j) the_body) l)
-        (outputs_same (sides_of c core) text low j) 0 rows outs,
-    outputs_carried second first rows low text
-        (λ y t u l. knows_back c core nodes marked no_replies no_replies (no_agree (sides_of c core)) rows _ _ (Value u) (variable (top j) the_body) l)
-        (sym (outputs_same (sides_of c core) text low j)) 0 rows outs,
+  outputs_both : (low : Text) → TiedText (sides_of c core chosen) chosen low → (rows outs : List (List ℕ)) → Outputs first chosen rows outs ↔ Outputs second low rows outs
+  outputs_both low j rows outs = (
+    outputs_carried first second rows chosen low
+        (λ y t u l. knows_there c core chosen nodes marked replies others agree rows _ _ (Value u) (variable (top refl j) the_body) l)
+        (outputs_same (sides_of c core chosen) chosen low j) 0 rows outs,
+    outputs_carried second first rows low chosen
+        (λ y t u l. knows_back c core chosen nodes marked replies others agree rows _ _ (Value u) (variable (top refl j) the_body) l)
+        (sym (outputs_same (sides_of c core chosen) chosen low j)) 0 rows outs,
   )
+
+pub lowering_keeps_replied : LoweringKeepsReplied
+lowering_keeps_replied c core marked replies others k node low rows outs range accepted h at low_at agree =
+    let nodes = accepted_is_tied c core range accepted h in
+    subst (λ (types : List TypeDec). Outputs (of_program c.program (clock_in c.clocks) marked replies) (Written k node) rows outs ↔ Outputs (record (of_core core marked others) { types = types }) (Lowered low) rows outs)
+    (sym h.types)
+    (outputs_both c core (Written k node) nodes marked replies others agree (Lowered low) (texts_at c core (Written k node) nodes k node low at low_at) rows outs)
+
+-- no replies agree
+pub no_agree : (nodes : List Node) (chosen : Text) → Agree nodes chosen no_replies no_replies
+no_agree nodes chosen places numbers i path = refl
 
 pub lowering_keeps_outputs : LoweringKeepsOutputs
 lowering_keeps_outputs c core marked k node low rows outs range accepted h at low_at =
-    let nodes = accepted_is_tied c core range accepted h in
-    subst (λ (types : List TypeDec). Outputs (of_program c.program (clock_in c.clocks) marked no_replies) (Written k node) rows outs ↔ Outputs (record (of_core core marked no_replies) { types = types }) (Lowered low) rows outs)
-    (sym h.types) (outputs_both c core marked nodes (Written k node) (Lowered low) (chosen c core marked nodes k node low at low_at) rows outs)
+    lowering_keeps_replied c core marked no_replies no_replies k node low rows outs range accepted h at low_at (no_agree c.program.nodes (Written k node))

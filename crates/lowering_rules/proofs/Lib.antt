@@ -1,5 +1,6 @@
 pub mod Steps
 pub mod Matching
+pub mod CallsIn
 pub mod TiedTexts
 pub mod TiedQuestions
 pub mod Known
@@ -9,3 +10,4 @@ pub mod Orders
 pub mod TiedPieces
 pub mod FoundSites
 pub mod KeptSites
+pub mod PathsOfCalls

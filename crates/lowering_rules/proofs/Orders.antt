@@ -5,7 +5,8 @@ use Rattle.hept_ast.specs.Sites.{Site, path_of, is_before, insert, by_number}
 use Rattle.hept_ast.specs.declared.tree.Expr.{Expr}
 use Rattle.hept_ast.specs.declared.tree.MergeBranch.{MergeBranch}
 use Rattle.naming_rules.proofs.Shapes.{Each}
-use Rattle.lowering_rules.specs.Lowering.{node_frame, Lowers, const, var, last, unary, binary, choice, fby, pre, arrow, when, merge, call, async_call, async_const, get, LowersAll, no_exprs, more_exprs, LowersBranches, no_branches, more_branches}
+use Rattle.lowering_rules.specs.CallPaths.{Call}
+use Rattle.lowering_rules.specs.TiedScopes.{LowersIn, const, var, unary, binary, choice, fby, pre, arrow, when, merge, call, async_call, async_const, get, LowersAllIn, no_exprs, more_exprs, LowersBranchesIn, no_branches, more_branches}
 
 -- ---- paths
 
@@ -93,10 +94,9 @@ both_ordered path least middle end (a ∷ fs) bs h k i j =
 -- ---- numbers grow
 
 mutual
-  pub grows : {n m : ℕ} {e r : Expr} → Lowers node_frame n e r m → n ≤ m
+  pub grows : {calls : List Call} {n m : ℕ} {e r : Expr} → LowersIn calls n e r m → n ≤ m
   grows const = omega arith
   grows var = omega arith
-  grows (last e) = omega arith
   grows (unary h) = grows h
   grows (binary {n = n} {m = m} {k = k} h i) = let p : n ≤ m = grows h in let q : m ≤ k = grows i in omega arith
   grows (choice {n = n} {m = m} {k = k} {l = l} h i j) = let p : n ≤ m = grows h in let q : m ≤ k = grows i in let o : k ≤ l = grows j in omega arith
@@ -105,15 +105,15 @@ mutual
   grows (arrow {n = n} {m = m} {k = k} h i) = let p : n ≤ m = grows h in let q : m ≤ k = grows i in omega arith
   grows (when h) = grows h
   grows (merge h) = branches_grow h
-  grows (call {n = n} {m = m} h) = let p : suc n ≤ m = all_grow h in omega arith
-  grows (async_call {n = n} {m = m} h) = let p : suc n ≤ m = all_grow h in omega arith
+  grows (call {n = n} {m = m} i h) = let p : suc n ≤ m = all_grow h in omega arith
+  grows (async_call {n = n} {m = m} i h) = let p : suc n ≤ m = all_grow h in omega arith
   grows async_const = omega arith
   grows (get h) = grows h
 
-  pub all_grow : {n m : ℕ} {es rs : List Expr} → LowersAll node_frame n es rs m → n ≤ m
+  pub all_grow : {calls : List Call} {n m : ℕ} {es rs : List Expr} → LowersAllIn calls n es rs m → n ≤ m
   all_grow no_exprs = omega arith
   all_grow (more_exprs {n = n} {m = m} {k = k} h hs) = let p : n ≤ m = grows h in let q : m ≤ k = all_grow hs in omega arith
 
-  pub branches_grow : {n m : ℕ} {bs cs : List MergeBranch} → LowersBranches node_frame n bs cs m → n ≤ m
+  pub branches_grow : {calls : List Call} {n m : ℕ} {bs cs : List MergeBranch} → LowersBranchesIn calls n bs cs m → n ≤ m
   branches_grow no_branches = omega arith
   branches_grow (more_branches {n = n} {m = m} {k = k} h hs) = let p : n ≤ m = grows h in let q : m ≤ k = branches_grow hs in omega arith

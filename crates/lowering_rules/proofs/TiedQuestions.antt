@@ -4,7 +4,7 @@ use Rattle.std.specs.Prelude.{if◌then◌else◌, slice_get, slice_index_or}
 use Rattle.std.specs.List.{find, flat_map}
 use Rattle.std.specs.Option.{option_map}
 use Rattle.hept_ast.specs.Texts.{Name, is_in, place_in, tag_value}
-use Rattle.hept_ast.specs.Scopes.{Clock, Text, Scope, Top, Called, Under, inputs_of, outputs_of, home, calls_around}
+use Rattle.hept_ast.specs.Scopes.{Clock, Text, Scope, Top, Called, Under, inputs_of, outputs_of, text_of, home, calls_around}
 use Rattle.hept_ast.specs.Meaning.{Question, Gives, Output, Variable, Defined, Defines, Present, Active, Restarted, Rule, Says, Reads, Setting, is_true, is_value, steps_hold, before, merged, form_rule, output_rule, outputs_rule, reply_or, argument_rule, own_rule, variable_rule, present_rule, active_rule, restarted_rule, defines_rule, if_defined, Is, rule, answer_to, if_present}
 use Rattle.hept_ast.specs.Settings.{Marks, Replies, of_core, of_program}
 use Rattle.hept_ast.specs.Stages.{ClockedProgram}
@@ -21,8 +21,9 @@ use Rattle.hept_ast.specs.declared.tree.Form.{Form, out-Form}
 use Rattle.hept_ast.specs.declared.tree.Form.TheOpen.{Form-F}
 use Rattle.naming_rules.proofs.Shapes.{out_Const, out_Var, out_Unary, out_Binary, out_If, out_Fby, out_Pre, out_Arrow, out_When, out_Merge, out_Call, out_AsyncCall, out_AsyncConst, out_Get}
 use Rattle.core_naming.proofs.Matching.{Matches, says, reads, asks, if_matches, go_on_matches, present_matches, previous_matches, count_matches}
-use Rattle.lowering_rules.specs.Lowering.{node_frame, Lowers, const, var, last, unary, binary, choice, fby, pre, arrow, when, merge, call, async_call, async_const, get, LowersAll, no_exprs, more_exprs, LowersBranches, no_branches, more_branches}
-use Rattle.lowering_rules.specs.Ties.{Sides, TiedNodes, TiedScope, top, called}
+use Rattle.lowering_rules.specs.CallPaths.{text_calls, LeadsTo, itself, into, call_path, Agree}
+use Rattle.lowering_rules.specs.Ties.{Sides, TiedNodes}
+use Rattle.lowering_rules.specs.TiedScopes.{LowersIn, const, var, unary, binary, choice, fby, pre, arrow, when, merge, call, async_call, async_const, get, LowersAllIn, no_exprs, more_exprs, LowersBranchesIn, no_branches, more_branches, TiedScope, top, called}
 use Rattle.lowering_rules.proofs.Matching.{alike_by}
 use Rattle.lowering_rules.proofs.TiedTexts.{TiedOption, no_text, both, found_tied, inputs_same, outputs_same, clock_same}
 
@@ -35,8 +36,8 @@ module _ (z : Sides) where
     a_right : IsWithin r (Under r [])
 
   pub data Tie : Question → Question → Type 0 where
-    gives : {e d : Expr} {c : Clock} {s r : Scope} {t n m : ℕ} → TiedScope z s r → Lowers node_frame n e d m → Tie (Gives e c s t) (Gives d c (Under r []) t)
-    output : {e d : Expr} {j : ℕ} {c : Clock} {s r : Scope} {t n m : ℕ} → TiedScope z s r → Lowers node_frame n e d m → Tie (Output e j c s t) (Output d j c (Under r []) t)
+    gives : {e d : Expr} {c : Clock} {s r : Scope} {t n m : ℕ} → TiedScope z s r → LowersIn (text_calls (text_of s)) n e d m → Tie (Gives e c s t) (Gives d c (Under r []) t)
+    output : {e d : Expr} {j : ℕ} {c : Clock} {s r : Scope} {t n m : ℕ} → TiedScope z s r → LowersIn (text_calls (text_of s)) n e d m → Tie (Output e j c s t) (Output d j c (Under r []) t)
     variable : {x : Name} {s r u : Scope} {t : ℕ} → TiedScope z s r → IsWithin r u → Tie (Variable x s t) (Variable x u t)
     present : {c : Clock} {s r u : Scope} {t : ℕ} → TiedScope z s r → IsWithin r u → Tie (Present c s t) (Present c u t)
     active : {s r : Scope} {t : ℕ} → TiedScope z s r → Tie (Active s t) (Active r t)
@@ -50,18 +51,19 @@ module _ (z : Sides) where
   active_within h the_body = active h
   active_within h a_right = inner_active h
 
+  -- the calls around tied scopes lead to their texts
+  pub leads : (s r : Scope) → TiedScope z s r → LeadsTo z.nodes z.chosen (calls_around s) (calls_around r) (text_of s)
+  leads _ _ (top e k) = subst (λ (text : Text). LeadsTo z.nodes z.chosen [] [] text) (sym e) itself
+  leads _ _ (called {s = s} {r = r} {n = n} h l k i) = into n (leads s r h) i.at i.node
+
 -- a program and the core that comes of it
-abbrev pub sides_of : ClockedProgram → Core → Sides
-sides_of c core = record { clock = maps.clock_in c.clocks; nodes = c.program.nodes; lows = core.nodes }
+abbrev pub sides_of : ClockedProgram → Core → Text → Sides
+sides_of c core chosen = record { clock = maps.clock_in c.clocks; nodes = c.program.nodes; lows = core.nodes; chosen = chosen }
 
--- the replies to tied calls
-abbrev pub Agree : Sides → Replies → Replies → Type 0
-Agree z replies others = (s r : Scope) → TiedScope z s r → (p n i : ℕ) → others (calls_around r ++ n ∷ []) i ≡ replies (calls_around s ++ p ∷ []) i
-
-module _ (c : ClockedProgram) (core : Core) (nodes : TiedNodes (maps.clock_in c.clocks) 0 c.program.nodes core.nodes)
-    (marked : Marks) (replies others : Replies) (agree : Agree (sides_of c core) replies others) where
+module _ (c : ClockedProgram) (core : Core) (chosen : Text) (nodes : TiedNodes (maps.clock_in c.clocks) 0 c.program.nodes core.nodes)
+    (marked : Marks) (replies others : Replies) (agree : Agree c.program.nodes chosen replies others) where
   abbrev pub sides : Sides
-  sides = sides_of c core
+  sides = sides_of c core chosen
 
   abbrev pub w : Setting
   w = of_program c.program sides.clock marked replies
@@ -97,7 +99,7 @@ module _ (c : ClockedProgram) (core : Core) (nodes : TiedNodes (maps.clock_in c.
       previous_matches (λ p. Present k s p) (λ p. Restarted s p) (λ p. Present k (Under r []) p) (λ p. Restarted (Under r []) p) t
       (λ p. present h a_right) (λ p. inner_restarted h) f g
 
-  branches_alike : (u : ℕ) (x : Name) (k : Clock) (s r : Scope) (t : ℕ) {n m : ℕ} {bs cs : List MergeBranch} → Tied s r → LowersBranches node_frame n bs cs m →
+  branches_alike : (u : ℕ) (x : Name) (k : Clock) (s r : Scope) (t : ℕ) {n m : ℕ} {bs cs : List MergeBranch} → Tied s r → LowersBranchesIn (text_calls (text_of s)) n bs cs m →
       Alike (merged w (find (λ b. tag_value w.types b.tag == u) bs) x k s t) (merged v (find (λ b. tag_value w.types b.tag == u) cs) x k (Under r []) t)
   branches_alike u x k s r t h no_branches = says
   branches_alike u x k s r t h (more_branches {p = p} {tag = tag} {e = e} {r = d} {bs = bs} {cs = cs} l ls) = go (tag_value w.types tag == u) (branches_alike u x k s r t h ls)
@@ -116,10 +118,9 @@ module _ (c : ClockedProgram) (core : Core) (nodes : TiedNodes (maps.clock_in c.
       (ap (λ (z : Form-F Form Expr MergeBranch). if_present (Present k (Under r []) t) (form_rule v z d k (Under r []) t)) q)
       (present_matches _ _ (present h a_right) l)
 
-  gives_alike : (e d : Expr) (k : Clock) (s r : Scope) (t n m : ℕ) → Tied s r → Lowers node_frame n e d m → Alike (rule w (Gives e k s t)) (rule v (Gives d k (Under r []) t))
+  gives_alike : (e d : Expr) (k : Clock) (s r : Scope) (t n m : ℕ) → Tied s r → LowersIn (text_calls (text_of s)) n e d m → Alike (rule w (Gives e k s t)) (rule v (Gives d k (Under r []) t))
   gives_alike _ _ k s r t n m h (const {k = z}) = form_by _ _ _ _ k s r t h (out_Const z) (out_Const z) says
   gives_alike _ _ k s r t n m h (var {x = x}) = form_by _ _ _ _ k s r t h (out_Var x) (out_Var x) (asks (variable h a_right) (λ a. says))
-  gives_alike _ _ k s r t n m h (last e) = cc
   gives_alike _ _ k s r t n m h (unary {op = op} {a = a} {b = b} l) = form_by _ _ _ _ k s r t h (out_Unary op a) (out_Unary op b) (asks (gives h l) (λ x. go_on_matches x (λ i. says)))
   gives_alike _ _ k s r t n m h (binary {op = op} {a = a} {b = b} {c = c'} {d = d} l i) =
       form_by _ _ _ _ k s r t h (out_Binary op a c') (out_Binary op b d) (asks (gives h l) (λ x. go_on_matches x (λ y. asks (gives h i) (λ z. go_on_matches z (λ u. says)))))
@@ -134,9 +135,9 @@ module _ (c : ClockedProgram) (core : Core) (nodes : TiedNodes (maps.clock_in c.
   gives_alike _ _ k s r t n m h (when {a = a} {b = b} {tag = tag} {x = x} l) = form_by _ _ _ _ k s r t h (out_When a tag x) (out_When b tag x) (asks (gives h l) (λ y. says))
   gives_alike _ _ k s r t n m h (merge {x = x} {bs = bs} {cs = cs} l) =
       form_by _ _ _ _ k s r t h (out_Merge x bs) (out_Merge x cs) (asks (variable h a_right) (λ y. go_on_matches y (λ u. branches_alike u x k s r t h l)))
-  gives_alike _ _ k s r t n m h (call {g = g} {es = es} {rs = rs} l) = form_by _ _ _ _ k s r t h (out_Call g es) (out_Call g rs) (asks (output h (call l)) (λ x. says))
-  gives_alike _ _ k s r t n m h (async_call {q = q} {g = g} {es = es} {rs = rs} l) =
-      form_by _ _ _ _ k s r t h (out_AsyncCall q g es) (out_AsyncCall q g rs) (asks (output h (async_call l)) (λ x. says))
+  gives_alike _ _ k s r t n m h (call {g = g} {es = es} {rs = rs} i l) = form_by _ _ _ _ k s r t h (out_Call g es) (out_Call g rs) (asks (output h (call i l)) (λ x. says))
+  gives_alike _ _ k s r t n m h (async_call {q = q} {g = g} {es = es} {rs = rs} i l) =
+      form_by _ _ _ _ k s r t h (out_AsyncCall q g es) (out_AsyncCall q g rs) (asks (output h (async_call i l)) (λ x. says))
   gives_alike _ _ k s r t n m h (async_const {k = z}) = form_by _ _ _ _ k s r t h (out_AsyncConst z) (out_AsyncConst z) says
   gives_alike _ _ k s r t n m h (get {a = a} {b = b} l) = form_by _ _ _ _ k s r t h (out_Get a) (out_Get b) (asks (gives h l) (λ x. says))
 
@@ -149,14 +150,15 @@ module _ (c : ClockedProgram) (core : Core) (nodes : TiedNodes (maps.clock_in c.
       go None = h
       go (Some xs) = says
 
-  call_alike : (o q : Option Text) (es rs : List Expr) (p i j : ℕ) (k : Clock) (s r : Scope) (t n m : ℕ) → TiedOption sides o q → Tied s r → LowersAll node_frame n es rs m →
-      Alike (output_rule w (option_map (λ text. (es, text)) o) p j k s t) (output_rule v (option_map (λ text. (rs, text)) q) i j k (Under r []) t)
-  call_alike _ _ es rs p i j k s r t n m no_text h l = says
-  call_alike _ _ es rs p i j k s r t n m (both {text = text} {low = low} z) h l =
+  call_alike : (o q : Option Text) (g : Name) (es rs : List Expr) (p n j : ℕ) (k : Clock) (s r : Scope) (t m : ℕ) → TiedOption sides o q → w.node g ≡ o →
+      slice_get (text_calls (text_of s)) n ≡ Some (record { place = p; name = g }) → Tied s r → LowersAllIn (text_calls (text_of s)) (suc n) es rs m →
+      Alike (output_rule w (option_map (λ text. (es, text)) o) p j k s t) (output_rule v (option_map (λ text. (rs, text)) q) n j k (Under r []) t)
+  call_alike _ _ g es rs p n j k s r t m no_text e at h l = says
+  call_alike _ _ g es rs p n j k s r t m (both {text = text} {low = low} z) e at h l =
       count_matches (λ u. Present k s u) (λ u. Present k (Under r []) u) t _ _ (λ u. present h a_right) (λ u.
-      reply_alike (w.replies (calls_around s ++ p ∷ []) u) (v.replies (calls_around r ++ i ∷ []) u) j (agree s r h p i u)
-      (subst (λ (xs : List Name). Alike (answer_to (Variable (slice_index_or (outputs_of text) j []) (Called s k p es text) t)) (answer_to (Variable (slice_index_or xs j []) (Called (Under r []) k i rs low) t)))
-      (sym (outputs_same sides text low z)) (asks (variable (called h l z) the_body) (λ a. says))))
+      reply_alike (w.replies (calls_around s ++ p ∷ []) u) (v.replies (calls_around r ++ n ∷ []) u) j (agree (calls_around s ++ p ∷ []) (calls_around r ++ n ∷ []) u (call_path n (leads sides s r h) at))
+      (subst (λ (xs : List Name). Alike (answer_to (Variable (slice_index_or (outputs_of text) j []) (Called s k p es text) t)) (answer_to (Variable (slice_index_or xs j []) (Called (Under r []) k n rs low) t)))
+      (sym (outputs_same sides text low z)) (asks (variable (called h l z (record { name = g; at = at; node = e })) the_body) (λ a. says))))
 
   output_by : (e d : Expr) (f g : Form-F Form Expr MergeBranch) (j : ℕ) (k : Clock) (s r : Scope) (t : ℕ) → Tied s r → out-Form e.form ≡ f → out-Form d.form ≡ g →
       Alike (outputs_rule w f e j k s t) (outputs_rule v g d j k (Under r []) t) → Alike (rule w (Output e j k s t)) (rule v (Output d j k (Under r []) t))
@@ -165,10 +167,9 @@ module _ (c : ClockedProgram) (core : Core) (nodes : TiedNodes (maps.clock_in c.
       (ap (λ (z : Form-F Form Expr MergeBranch). if_present (Present k (Under r []) t) (outputs_rule v z d j k (Under r []) t)) q)
       (present_matches _ _ (present h a_right) l)
 
-  output_alike : (e d : Expr) (j : ℕ) (k : Clock) (s r : Scope) (t n m : ℕ) → Tied s r → Lowers node_frame n e d m → Alike (rule w (Output e j k s t)) (rule v (Output d j k (Under r []) t))
+  output_alike : (e d : Expr) (j : ℕ) (k : Clock) (s r : Scope) (t n m : ℕ) → Tied s r → LowersIn (text_calls (text_of s)) n e d m → Alike (rule w (Output e j k s t)) (rule v (Output d j k (Under r []) t))
   output_alike _ _ j k s r t n m h (const {k = z}) = output_by _ _ _ _ j k s r t h (out_Const z) (out_Const z) says
   output_alike _ _ j k s r t n m h (var {x = x}) = output_by _ _ _ _ j k s r t h (out_Var x) (out_Var x) says
-  output_alike _ _ j k s r t n m h (last e) = cc
   output_alike _ _ j k s r t n m h (unary {op = op} {a = a} {b = b} l) = output_by _ _ _ _ j k s r t h (out_Unary op a) (out_Unary op b) says
   output_alike _ _ j k s r t n m h (binary {op = op} {a = a} {b = b} {c = c'} {d = d} l i) = output_by _ _ _ _ j k s r t h (out_Binary op a c') (out_Binary op b d) says
   output_alike _ _ j k s r t n m h (choice {i = i} {j = i'} {a = a} {b = b} {c = c'} {d = d} l o p) = output_by _ _ _ _ j k s r t h (out_If i a c') (out_If i' b d) says
@@ -177,36 +178,36 @@ module _ (c : ClockedProgram) (core : Core) (nodes : TiedNodes (maps.clock_in c.
   output_alike _ _ j k s r t n m h (arrow {a = a} {b = b} {c = c'} {d = d} l i) = output_by _ _ _ _ j k s r t h (out_Arrow a c') (out_Arrow b d) says
   output_alike _ _ j k s r t n m h (when {a = a} {b = b} {tag = tag} {x = x} l) = output_by _ _ _ _ j k s r t h (out_When a tag x) (out_When b tag x) says
   output_alike _ _ j k s r t n m h (merge {x = x} {bs = bs} {cs = cs} l) = output_by _ _ _ _ j k s r t h (out_Merge x bs) (out_Merge x cs) says
-  output_alike _ _ j k s r t n m h (call {p = p} {g = g} {es = es} {rs = rs} l) =
-      output_by _ _ _ _ j k s r t h (out_Call g es) (out_Call g rs) (call_alike (w.node g) (v.node g) es rs p.0 n j k s r t (suc n) m (found_tied sides g nodes) h l)
-  output_alike _ _ j k s r t n m h (async_call {p = p} {q = q} {g = g} {es = es} {rs = rs} l) =
+  output_alike _ _ j k s r t n m h (call {p = p} {g = g} {es = es} {rs = rs} i l) =
+      output_by _ _ _ _ j k s r t h (out_Call g es) (out_Call g rs) (call_alike (w.node g) (v.node g) g es rs p.0 n j k s r t m (found_tied sides g nodes) refl i h l)
+  output_alike _ _ j k s r t n m h (async_call {p = p} {q = q} {g = g} {es = es} {rs = rs} i l) =
       output_by _ _ _ _ j k s r t h (out_AsyncCall q g es) (out_AsyncCall q g rs)
-      (call_alike (w.node g) (v.node g) es rs p.0 n j k s r t (suc n) m (found_tied sides g nodes) h l)
+      (call_alike (w.node g) (v.node g) g es rs p.0 n j k s r t m (found_tied sides g nodes) refl i h l)
   output_alike _ _ j k s r t n m h (async_const {k = z}) = output_by _ _ _ _ j k s r t h (out_AsyncConst z) (out_AsyncConst z) says
   output_alike _ _ j k s r t n m h (get {a = a} {b = b} l) = output_by _ _ _ _ j k s r t h (out_Get a) (out_Get b) (asks (output h l) (λ x. says))
 
   -- ---- variables
 
-  argument_alike : (k : Clock) (s r : Scope) (t i : ℕ) {n m : ℕ} {es rs : List Expr} → Tied s r → LowersAll node_frame n es rs m →
+  argument_alike : (k : Clock) (s r : Scope) (t i : ℕ) {n m : ℕ} {es rs : List Expr} → Tied s r → LowersAllIn (text_calls (text_of s)) n es rs m →
       Alike (argument_rule w (slice_get es i) k s t) (argument_rule v (slice_get rs i) k (Under r []) t)
   argument_alike k s r t i h no_exprs = says
   argument_alike k s r t zero h (more_exprs l ls) = asks (gives h l) (λ a. says)
   argument_alike k s r t (suc i) h (more_exprs l ls) = argument_alike k s r t i h ls
 
   variable_alike : (s r : Scope) (x : Name) (t : ℕ) → Tied s r → Alike (variable_rule w x (home x s) t) (variable_rule v x (home x r) t)
-  variable_alike _ _ x t (top {text = text} {low = low} k) =
+  variable_alike _ _ x t (top {text = text} {low = low} e k) =
       subst (λ (z : Clock). Alike (variable_rule w x (Top text) t) (if_present (Present z (Top low) t) (own_rule v (Top low) x t))) (sym (clock_same sides w v refl text low x k))
-      (present_matches _ _ (present (top k) the_body)
+      (present_matches _ _ (present (top e k) the_body)
       (subst (λ (xs : List Name). Alike (own_rule w (Top text) x t) (if is_in x xs then Reads t (place_in x xs) else answer_to (Defined x (Top low) t)))
-      (sym (inputs_same sides text low k)) (if_matches (is_in x (inputs_of text)) reads (asks (defined (top k)) (λ a. says)))))
-  variable_alike _ _ x t (called {s = s} {r = r} {c = z} {p = p} {n = n} {es = es} {rs = rs} {text = text} {low = low} h l k) =
+      (sym (inputs_same sides text low k)) (if_matches (is_in x (inputs_of text)) reads (asks (defined (top e k)) (λ a. says)))))
+  variable_alike _ _ x t (called {s = s} {r = r} {c = z} {p = p} {n = n} {es = es} {rs = rs} {text = text} {low = low} h l k i) =
       subst (λ (y : Clock). Alike (variable_rule w x (Called s z p es text) t) (if_present (Present y (Called (Under r []) z n rs low) t) (own_rule v (Called (Under r []) z n rs low) x t)))
       (sym (clock_same sides w v refl text low x k))
-      (present_matches _ _ (present (called h l k) the_body)
+      (present_matches _ _ (present (called h l k i) the_body)
       (subst (λ (xs : List Name). Alike (own_rule w (Called s z p es text) x t)
       (if is_in x xs then argument_rule v (slice_get rs (place_in x xs)) z (Under r []) t else answer_to (Defined x (Called (Under r []) z n rs low) t)))
       (sym (inputs_same sides text low k))
-      (if_matches (is_in x (inputs_of text)) (argument_alike z s r t (place_in x (inputs_of text)) h l) (asks (defined (called h l k)) (λ a. says)))))
+      (if_matches (is_in x (inputs_of text)) (argument_alike z s r t (place_in x (inputs_of text)) h l) (asks (defined (called h l k i)) (λ a. says)))))
 
   within_alike : (s r u : Scope) (x : Name) (t : ℕ) → Tied s r → IsWithin sides r u → Alike (variable_rule w x (home x s) t) (variable_rule v x (home x u) t)
   within_alike s r _ x t h the_body = variable_alike s r x t h
@@ -215,12 +216,12 @@ module _ (c : ClockedProgram) (core : Core) (nodes : TiedNodes (maps.clock_in c.
   -- ---- scopes
 
   pub active_alike : (s r : Scope) (t : ℕ) → Tied s r → Alike (active_rule w s t) (active_rule v r t)
-  active_alike _ _ t (top k) = says
-  active_alike _ _ t (called h l k) = asks (present h a_right) (λ a. says)
+  active_alike _ _ t (top e k) = says
+  active_alike _ _ t (called h l k i) = asks (present h a_right) (λ a. says)
 
   pub restarted_alike : (s r : Scope) (t : ℕ) → Tied s r → Alike (restarted_rule w s t) (restarted_rule v r t)
-  restarted_alike _ _ t (top k) = says
-  restarted_alike _ _ t (called h l k) = asks (inner_restarted h) (λ a. says)
+  restarted_alike _ _ t (top e k) = says
+  restarted_alike _ _ t (called h l k i) = asks (inner_restarted h) (λ a. says)
 
   -- ---- what equations define
 

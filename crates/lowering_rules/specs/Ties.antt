@@ -1,7 +1,7 @@
 -- What links a node of a program to the core's node that comes of it, so that what the one gives the other gives.
 use Rattle.std.specs.Prelude.{◌≡◌, ℕ, suc, true, false, List, [], ◌∷◌, ◌++◌, Some, slice_get}
 use Rattle.hept_ast.specs.Texts.{Name, is_in, names}
-use Rattle.hept_ast.specs.Scopes.{Clock, Text, Written, Lowered, Scope, Top, Called, Under, equation_of}
+use Rattle.hept_ast.specs.Scopes.{Clock, Text, Written, Lowered, equation_of}
 use Rattle.hept_ast.specs.Meaning.{clock_of_equation}
 use Rattle.hept_ast.specs.declared.name.Place.{Place}
 use Rattle.hept_ast.specs.declared.tree.Expr.{Expr}
@@ -10,7 +10,7 @@ use Rattle.hept_ast.specs.declared.tree.Equation.TheVariants as equation
 use Rattle.hept_ast.specs.declared.tree.Node.{Node}
 use Rattle.hept_ast.specs.declared.tree.CoreNode.{CoreNode}
 use Rattle.hept_ast.specs.declared.tree.CoreEquation.{CoreEquation}
-use Rattle.lowering_rules.specs.Lowering.{node_frame, clock_of_left, Lowers, LowersAll}
+use Rattle.lowering_rules.specs.Lowering.{node_frame, clock_of_left, Lowers}
 
 abbrev pub core_equation : Place → List Name → Clock → Expr → CoreEquation
 core_equation p left c r = record { place = p; left = left; clock = record { steps = c }; right = r; resets = [] }
@@ -37,19 +37,14 @@ pub data TiedNodes (clock : ℕ → Name → Clock) : (k : ℕ) → List Node �
   more_nodes : {k : ℕ} {node : Node} {low : CoreNode} {nodes : List Node} {lows : List CoreNode} → TiedNode (clock k) node low → TiedNodes clock (suc k) nodes lows →
       TiedNodes clock k (node ∷ nodes) (low ∷ lows)
 
--- the nodes of both, with the clocks of the program's variables
+-- the nodes of both, with the clocks of the program's variables, and the text of the chosen node
 pub record Sides : Type 0 where
   pub clock : ℕ → Name → Clock
   pub nodes : List Node
   pub lows : List CoreNode
+  pub chosen : Text
 
 -- the nodes at one position
 pub data TiedText (z : Sides) : Text → Text → Type 0 where
   tied_text : {k : ℕ} {node : Node} {low : CoreNode} → slice_get z.nodes k ≡ Some node → slice_get z.lows k ≡ Some low → TiedNode (z.clock k) node low →
       TiedText z (Written k node) (Lowered low)
-
--- the bodies of nodes: an argument of a call stands under the resets of its equation, of which there are none
-pub data TiedScope (z : Sides) : Scope → Scope → Type 0 where
-  top : {text low : Text} → TiedText z text low → TiedScope z (Top text) (Top low)
-  called : {s r : Scope} {c : Clock} {p n k m : ℕ} {es rs : List Expr} {text low : Text} → TiedScope z s r → LowersAll node_frame k es rs m → TiedText z text low →
-      TiedScope z (Called s c p es text) (Called (Under r []) c n rs low)

@@ -3,4 +3,4 @@
 
 mod laws;
 
-pub use laws::lowering_laws;
+pub use laws::{lowering_laws, lowering_reply_laws};
