@@ -1,0 +1,6 @@
+pub mod ServedForms
+pub mod ServedNodes
+pub mod OnBase
+pub mod LoweredFlat
+pub mod NamedFlat
+pub mod OrderedFlat
