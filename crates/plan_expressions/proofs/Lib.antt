@@ -1,0 +1,12 @@
+pub mod FormsMore
+pub mod PlacesOf
+pub mod Operands
+pub mod Within
+pub mod Adding
+pub mod Presences
+pub mod Grounds
+pub mod Emitting
+pub mod KeptWithin
+pub mod Branches
+pub mod Weights
+pub mod PlainOnes

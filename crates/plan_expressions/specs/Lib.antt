@@ -1,0 +1,5 @@
+pub mod Computable
+pub mod Building
+pub mod Grounded
+pub mod Clocked
+pub mod Plain
