@@ -1,5 +1,5 @@
 ghost use Rattle.std.specs.Prelude.{◌≡◌, ◌≤◌, All, IfOk, List, length, map};
-ghost use Rattle.step_cells.specs.Cells.{value_in};
+ghost use Rattle.step_cells.specs.Cells.{cells_of, row_of, value_in};
 ghost use Rattle.step_plans.specs.Books.{Book, IsCellOf, IsNoHandle};
 ghost use Rattle.step_engine.specs.Actions.{IsOwned, TakesAll};
 ghost use Rattle.step_engine.specs.Instant.{CallsGoOn};
@@ -88,6 +88,7 @@ impl NodeMemory {
         requires book { (book : Book) × C.stands calls.old book × IsOwned plan.now.offerings.items book (futures_of self.old) }
         requires takes { TakesAll C.stands C.takes plan.now.offerings.items }
         ensures of { IsMemoryOf plan.now self.new }
+        ensures values { outputs.new ≡ cells_of (row_of outputs.new) }
         ensures served { (book : Book) → C.stands calls.old book → IsOwned plan.now.offerings.items book (futures_of self.old) →
             (later : Book) × C.stands calls.new later × IsOwned plan.now.offerings.items later (futures_of self.new) × CallsGoOn plan.now.offerings.items book later ×
             ServesCall plan.now inputs.now (map value_in outputs.new) self.old self.new book later }

@@ -1,5 +1,5 @@
 ghost use Rattle.std.specs.Prelude.{◌≡◌, [], All, length, map};
-ghost use Rattle.step_cells.specs.Cells.{value_in};
+ghost use Rattle.step_cells.specs.Cells.{cells_of, row_of, value_in};
 ghost use Rattle.step_plans.specs.Books.{IsNoHandle};
 ghost use Rattle.node_memory.specs.Standing.{IsSound, no_calls};
 ghost use Rattle.node_memory.specs.Memories.{HoldsCellsOf, IsMemoryOf, MakesCall};
@@ -20,6 +20,7 @@ pub fn step_node(plan: &NodePlan, memory: &mut NodeMemory, inputs: &[Cell], outp
     requires no_handles { All IsNoHandle inputs.now }
     ensures of { IsMemoryOf plan.now memory.new }
     ensures alone { HoldsCellsOf no_calls memory.new }
+    ensures values { outputs.new ≡ cells_of (row_of outputs.new) }
     ensures call { MakesCall plan.now inputs.now (map value_in outputs.new) memory.old memory.new }
 {
     memory.serve(plan, &mut ZeroOffers {}, inputs, outputs);

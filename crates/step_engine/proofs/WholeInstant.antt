@@ -7,7 +7,7 @@ use Rattle.hept_ast.specs.Scopes.{Lowered}
 use Rattle.hept_ast.specs.Meaning.{Present, Variable, Is}
 use Rattle.hept_ast.specs.Sites.{Site}
 use Rattle.hept_ast.proofs.Depths.{one_answer}
-use Rattle.step_cells.specs.Cells.{value_in}
+use Rattle.step_cells.specs.Cells.{cells_of, row_of, value_in}
 use Rattle.step_cells.specs.declared.cell.Cell.{Cell}
 use Rattle.step_cells.specs.declared.cell.Cell.TheVariants as cell
 use Rattle.step_cells.specs.declared.cell.Handle.{Handle}
@@ -26,6 +26,17 @@ use Rattle.step_engine.specs.Running.{IsAfter, AreIn, future_at}
 use Rattle.step_engine.specs.Actions.{State, AreDone, AreFuturesAfter, stored_future}
 use Rattle.step_engine.specs.Instant.{AreMarked}
 use Rattle.step_engine.proofs.Passing.{Passed, all_passed, worth_if}
+
+-- outputs are given as values
+pub cells_given : (registers values : List ℕ) (outputs : List Cell) → length outputs ≡ length registers → AreIn registers values outputs → outputs ≡ cells_of (row_of outputs)
+cells_given [] values [] e h = refl
+cells_given [] values (c ∷ cs) e h = absurd (omega (arith, e))
+cells_given (r ∷ rs) values [] e h = absurd (omega (arith, e))
+cells_given (r ∷ rs) values (c ∷ cs) e h =
+    let given : c ≡ cell.Value (slice_index values r) = h 0 r refl in
+    let first : c ≡ cell.Value (value_in c) = given ∙ sym (ap (λ (d : Cell). cell.Value (value_in d)) given) in
+    let rest : cs ≡ cells_of (row_of cs) = cells_given rs values cs (omega (arith, e)) (λ k q at. h (suc k) q at) in
+    ap (λ (d : Cell). d ∷ cs) first ∙ ap (λ (ds : List Cell). cell.Value (value_in c) ∷ ds) rest
 
 worth_at : (reply : Handle → ℕ) (futures : List Cell) (f : ℕ) → slice_index (map (worth reply) futures) f ≡ worth reply (future_at futures f)
 worth_at reply [] f = refl

@@ -1,5 +1,5 @@
-ghost use Rattle.std.specs.Prelude.{All, length, map};
-ghost use Rattle.step_cells.specs.Cells.{value_in};
+ghost use Rattle.std.specs.Prelude.{◌≡◌, All, length, map};
+ghost use Rattle.step_cells.specs.Cells.{cells_of, row_of, value_in};
 ghost use Rattle.step_plans.specs.Books.{Book, IsNoHandle};
 ghost use Rattle.step_plans.specs.Instants.{ServesInstant};
 ghost use Rattle.step_engine.specs.Actions.{IsOwned, TakesAll};
@@ -27,7 +27,8 @@ pub fn serve_instant<C: Offers>(
     requires no_handles { All IsNoHandle inputs.now }
     requires book { (book : Book) × C.stands calls.old book × IsOwned plan.now.offerings.items book futures.old }
     requires takes { TakesAll C.stands C.takes plan.now.offerings.items }
-    ensures { (book : Book) → C.stands calls.old book → IsOwned plan.now.offerings.items book futures.old → (later : Book) × C.stands calls.new later × IsOwned plan.now.offerings.items later futures.new × CallsGoOn plan.now.offerings.items book later ×
+    ensures values { outputs.new ≡ cells_of (row_of outputs.new) }
+    ensures served { (book : Book) → C.stands calls.old book → IsOwned plan.now.offerings.items book futures.old → (later : Book) × C.stands calls.new later × IsOwned plan.now.offerings.items later futures.new × CallsGoOn plan.now.offerings.items book later ×
         ServesInstant plan.now inputs.now (map value_in outputs.new) (record { cells = cells.old; futures = futures.old; marks = marks.old }) (record { cells = cells.new; futures = futures.new; marks = marks.new }) book later }
 {
     put(inputs, values);

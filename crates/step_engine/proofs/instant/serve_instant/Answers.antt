@@ -8,7 +8,7 @@ use Rattle.step_engine.specs.Running.{AreIn, IsAfter}
 use Rattle.step_engine.specs.Actions.{AreDone, AreFuturesAfter, IsOwned, State}
 use Rattle.step_engine.specs.Instant.{AreMarked}
 use Rattle.step_engine.proofs.CallsOfBook.{calls_go_on}
-use Rattle.step_engine.proofs.WholeInstant.{Ran, serves_instant}
+use Rattle.step_engine.proofs.WholeInstant.{Ran, cells_given, serves_instant}
 use Rattle.step_engine.proofs.instant.serve_instant.Goals as goal
 
 pub serve-requires-clause-book : goal.serve-requires-clause-book
@@ -20,8 +20,11 @@ serve-requires-clause-book g c =
           (record { named = c.put_futures.ensures.named b.0 b.2.named c.requires.no_handles; outputs = b.2.outputs }),
     )
 
-pub returns : goal.returns
-returns g c = λ book st owned.
+pub returns-clause-values : goal.returns-clause-values
+returns-clause-values g c = cells_given c.as_slice-6.result.now c.serve.new.values c.give.new.outputs (omega (arith, c.give.auto.outputs, c.requires.runnable.outputs_fit, ap length c.as_slice-6.ensures.value)) c.give.ensures
+
+pub returns-clause-served : goal.returns-clause-served
+returns-clause-served g c = λ book st owned.
     let r = c.requires.runnable in
     let slice_is : length c.as_slice-4.result.now ≡ length c.args.plan.now.future_stores.items = ap length c.as_slice-4.ensures.value in
     let many : c.len.result ≡ length c.args.plan.now.future_stores.items = omega (arith, slice_is, c.as_slice-4.ensures.len, c.len.ensures) in

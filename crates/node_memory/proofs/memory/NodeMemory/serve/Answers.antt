@@ -21,7 +21,7 @@ returns-clause-served g c = λ book st owned.
     let futures_given : length c.as_mut_slice-4.result.now ≡ length m.futures.items = ap (λ (xs : List Cell). length xs) c.as_mut_slice-4.ensures.value in
     let futures_long : length c.serve_instant.new.futures ≡ length m.futures.items = omega (arith, c.serve_instant.auto.futures) in
     let futures_are : (with_items m.futures c.serve_instant.new.futures).items ≡ c.serve_instant.new.futures = rewritten m.futures c.serve_instant.new.futures futures_long in
-    let x = c.serve_instant.ensures book st (subst (λ (cs : List Cell). IsOwned plan.offerings.items book cs) (sym c.as_mut_slice-4.ensures.value) owned) in
+    let x = c.serve_instant.ensures.served book st (subst (λ (cs : List Cell). IsOwned plan.offerings.items book cs) (sym c.as_mut_slice-4.ensures.value) owned) in
     let later_owned : IsOwned plan.offerings.items x.0 (with_items m.futures c.serve_instant.new.futures).items = subst (λ (cs : List Cell). IsOwned plan.offerings.items x.0 cs) (sym futures_are) x.2 in
     let many : length (map value_in c.serve_instant.new.outputs) ≡ length plan.outputs.items = omega (arith, length-map c.serve_instant.new.outputs value_in, c.serve_instant.auto.outputs, c.requires.outputs_fit) in (
       x.0,
