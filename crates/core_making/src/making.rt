@@ -2,7 +2,9 @@ ghost use Rattle.std.specs.Prelude.{IfOk};
 ghost use Rattle.hept_ast.specs.Stages.{IsAcceptedProgram};
 ghost use Rattle.accepted_meaning.specs.Ranges.{IsInRange};
 ghost use Rattle.core_making.specs.Made.{LowersWell, MeansProgram};
+ghost use Rattle.flat_cores.specs.Flat.{IsFlatCore};
 ghost use Rattle.lowering_rules.specs.PlainPrograms.{IsPlainProgram};
+ghost use Rattle.served_programs.specs.Served.{IsServed};
 
 use hept_ast::{Accepted, Core, Memory};
 use normal_form::normalise;
@@ -26,11 +28,13 @@ fn lowered(alloc: Global, accepted: &Accepted) -> Result<Core, Memory>
     lower_blocks(alloc, accepted)
 }
 
-/// The core of an accepted program of equations alone, in normal form and in order.
+/// The core of an accepted program of equations alone, in normal form and in order. Where the program
+/// is served, the core is flat.
 pub fn make_core(alloc: Global, accepted: &Accepted) -> Result<Ordered, Memory>
     requires plain { IsPlainProgram accepted.now.program }
     requires range { IsInRange accepted.now.program }
     ensures means { IfOk result (λ made. MeansProgram accepted.now made) }
+    ensures flat { IsServed accepted.now.program → IfOk result IsFlatCore }
 {
     let core = lowered(alloc, accepted)?;
     let normal = normalise(alloc, core)?;

@@ -312,6 +312,9 @@ normalising_ends names core types done left w a h e =
     let k = normalised names core types done left h e in
     namings_normalise naming_keeps_outputs naming_keeps_sites naming_keeps_well_formed naming_makes_no_cycle core (record { types = types; nodes = done }) w a k.0.namings k.1
 
+pub normalising_names : (names : NewNames) (core : Core) (types : List TypeDec) (done left : List CoreNode) → Normalising names core types done left → left ≡ [] → Namings core (record { types = types; nodes = done })
+normalising_names names core types done left h e = (normalised names core types done left h e).0.namings
+
 pub normalising_stays : (names : NewNames) (core : Core) (types : List TypeDec) (done left : List CoreNode) → Normalising names core types done left → left ≡ [] → IsNormal core → record { types = types; nodes = done } ≡ core
 normalising_stays names core types done left h e n = (normalised names core types done left h e).0.still n
 

@@ -5,6 +5,7 @@ ghost use Rattle.core_naming.specs.Names.{new_equation};
 ghost use Rattle.core_naming.specs.Normal.{IsNormal};
 ghost use Rattle.core_rules.specs.Cores.{HasNoCoreCycle, core_judging};
 ghost use Rattle.core_rules.specs.WellFormed.{IsWellFormed};
+ghost use Rattle.naming_rules.specs.Namings.{Namings};
 ghost use Rattle.naming_rules.specs.Normalised.{IsNormalised};
 ghost use Rattle.normal_form.specs.OneType.{IsTypeOf};
 ghost use Rattle.normal_form.specs.Settling.{
@@ -253,6 +254,7 @@ pub fn normalise(alloc: Global, core: Core) -> Result<Core, Memory>
     requires well_formed { IsWellFormed core }
     requires acyclic { HasNoCoreCycle core }
     ensures normalised { IfOk result (λ other. IsNormalised core other) }
+    ensures namings { IfOk result (Namings core) }
     ensures still { IsNormal core → IfOk result (λ other. other ≡ core) }
     ensures facts { StaticCore core → IfOk result StaticCore }
 {

@@ -1,9 +1,11 @@
 use Rattle.std.proofs.lemmas.Result.{IfOk-weaker}
-use Rattle.core_making.proofs.Chains.{made_means}
+use Rattle.core_making.proofs.Chains.{made_flat, made_means}
 use Rattle.core_making.proofs.making.make_core.Goals as goal
 
-pub returns : goal.returns
-returns c = record {
-  means =
-      IfOk-weaker c.order.result _ _ (λ made h. made_means c.args.accepted.now c.in_ok-core.core c.in_ok-normal.normal made c.in_ok-core.ensures.means c.in_ok-normal.ensures.normalised h) c.order.ensures.meaning;
-}
+pub returns-clause-means : goal.returns-clause-means
+returns-clause-means c =
+    IfOk-weaker c.order.result _ _ (λ made h. made_means c.args.accepted.now c.in_ok-core.core c.in_ok-normal.normal made c.in_ok-core.ensures.means c.in_ok-normal.ensures.normalised h) c.order.ensures.meaning
+
+pub returns-clause-flat : goal.returns-clause-flat
+returns-clause-flat c = λ served.
+    IfOk-weaker c.order.result _ _ (λ made h. made_flat c.in_ok-core.core c.in_ok-normal.normal made c.in_ok-normal.ensures.namings h (c.in_ok-core.ensures.flat served)) c.order.ensures.moved

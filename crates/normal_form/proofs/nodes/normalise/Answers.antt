@@ -2,7 +2,7 @@ use Rattle.std.proofs.Common.{◌≡◌, List, sym, subst}
 use Rattle.hept_ast.specs.declared.tree.CoreNode.{CoreNode}
 use Rattle.hept_ast.specs.declared.tree.TypeDec.{TypeDec}
 use Rattle.normal_form.specs.Settling.{CanBeNamed, Normalises, core_around}
-use Rattle.normal_form.proofs.Settling.{normalising_begins, normalising_ends, normalising_more, normalising_requires, normalising_static, normalising_stays}
+use Rattle.normal_form.proofs.Settling.{normalising_begins, normalising_ends, normalising_more, normalising_names, normalising_requires, normalising_static, normalising_stays}
 use Rattle.normal_form.proofs.nodes.normalise.Goals as goal
 
 -- what is said of three lists is said of equal ones
@@ -35,6 +35,9 @@ nodes-preserved c =
 pub returns-clause-normalised : goal.returns-clause-normalised
 returns-clause-normalised c =
     normalising_ends c.nodes.names c.args.core c.args.core.types c.nodes.done c.nodes.left c.requires.well_formed c.requires.acyclic c.nodes.invariant (c.is_empty.ensures.0 c.nodes-test.false)
+
+pub returns-clause-namings : goal.returns-clause-namings
+returns-clause-namings c = normalising_names c.nodes.names c.args.core c.args.core.types c.nodes.done c.nodes.left c.nodes.invariant (c.is_empty.ensures.0 c.nodes-test.false)
 
 pub returns-clause-still : goal.returns-clause-still
 returns-clause-still c = λ n. normalising_stays c.nodes.names c.args.core c.args.core.types c.nodes.done c.nodes.left c.nodes.invariant (c.is_empty.ensures.0 c.nodes-test.false) n
