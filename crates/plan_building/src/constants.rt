@@ -6,7 +6,7 @@ ghost use Rattle.plan_building.specs.Buildable.{HasDivisor, IsDivisorOf};
 use hept_ast::{Const, Expr, Form, Memory, Name, TypeDec};
 
 /// The position of a name in a list, or the length of the list.
-pub(crate) fn position(names: &[Name], name: &Name) -> usize
+pub fn position(names: &[Name], name: &Name) -> usize
     ensures { result ≡ place_in name.now names.now }
 {
     for (i, other) in names.iter().enumerate() {
@@ -32,7 +32,7 @@ fn constructor(types: &[TypeDec], name: &Name) -> usize
 }
 
 /// The value of a constant. A type within the limits has few enough constructors for each to be one.
-pub(crate) fn constant(types: &[TypeDec], constant: &Const) -> Result<u32, Memory>
+pub fn constant(types: &[TypeDec], constant: &Const) -> Result<u32, Memory>
     ensures { IfOk result (λ v. v ≡ const_value types.now constant.now) }
 {
     match constant {

@@ -1,5 +1,5 @@
 //! The instructions of an equation on the base clock without resets.
-ghost use Rattle.std.specs.Prelude.{◌≡◌, ◌<◌, ◌+◌, ◌^◌, OnOk, length};
+ghost use Rattle.std.specs.Prelude.{◌≡◌, ◌<◌, ◌+◌, ◌^◌, OnOk, length, suc};
 ghost use Rattle.hept_ast.specs.declared.tree.Form.{out-Form};
 ghost use Rattle.plan_building.specs.Equations.{BuildsEquation, KeepsEquation};
 ghost use Rattle.plan_building.specs.Rights.{IsRight, right_cells};
@@ -23,6 +23,7 @@ pub fn emit_equation(
     requires right { IsRight types.now variables.now e.now.right }
     requires cells { cell + 1 < 2 ^ 32 }
     ensures builds { OnOk result (BuildsEquation types.now variables.now cell e.now registers.old.items draft.old registers.new.items draft.new) }
+    ensures one_more { OnOk result (length registers.new.items ≡ suc (length registers.old.items)) }
     ensures within { OnOk result (KeepsEquation (right_cells (out-Form e.now.right.form)) cell registers.old.items draft.old registers.new.items draft.new) }
 {
     let value = emit_right(

@@ -8,6 +8,7 @@ mod expressions;
 mod instructions;
 mod rights;
 
+pub use constants::{constant, position};
 pub use draft::Draft;
 pub use equations::emit_equation;
 pub use expressions::emit;

@@ -1,0 +1,11 @@
+use Rattle.std.proofs.lemmas.Result.{on_ok_weaker}
+use Rattle.step_plans.specs.declared.instruction.Store.TheVariants as keeps
+use Rattle.plan_nodes.specs.Stores.{IsPushed}
+use Rattle.plan_nodes.proofs.Adding.{adds_presence}
+use Rattle.plan_nodes.proofs.stores.keep_presence.Goals as goal
+
+pub returns : goal.returns
+returns c =
+    on_ok_weaker c.push.result
+    (λ (h : IsPushed c.args.cells.now c.push.new.self (keeps.Where 0 0) 0) types node variables registers draft. adds_presence types node variables registers draft c.args.cells.now c.push.new.self h)
+    c.push.ensures
