@@ -1,3 +1,4 @@
+mod Beginning
 pub mod Completeness
 pub mod Ends
 pub mod FileTexts

@@ -10,11 +10,10 @@ use Rattle.hept_ast.specs.Outputs.{Outputs}
 use Rattle.hept_ast.specs.Erasure.{erased, erased_node}
 use Rattle.hept_ast.specs.ErasedScopes.{erased_text}
 use Rattle.hept_ast.specs.Laws.{ErasedKeepsOutputs}
+use Rattle.hept_ast.specs.Stages.{ClockedProgram, HasLeastClocks}
 use Rattle.hept_ast.specs.declared.tree.Node.{Node}
 use Rattle.hept_ast.specs.declared.tree.Program.{Program}
-use Rattle.plain_stepper.specs.OnBase.{ServedIsOnBase}
-use Rattle.plain_stepper.specs.Stepping.{GivesRows, setting}
-use Rattle.run_checks.specs.Stops.{IsRunnable}
+use Rattle.program_stepper.specs.Stepping.{GivesRows}
 use Rattle.step_objects.specs.Interfaces.{last_text, main_text}
 use Rattle.hepasync_top.specs.Outputs.{ErasedOutputs, ProgramOutputs}
 
@@ -32,15 +31,8 @@ on_clocks : (p : Program) (clock : ℕ → Name → Clock) (rows outs : List (Li
 on_clocks p clock rows outs law h =
     subst (λ main. IsSomeAnd main (λ text. Outputs (of_program (erased p) clock no_marks no_replies) text rows outs)) (sym (last_erased 0 p.nodes)) (of_main p clock rows outs (main_text p) law h)
 
-pub erased_outputs : (p : Program) (rows outs : List (List ℕ)) → ErasedKeepsOutputs → ServedIsOnBase → IsRunnable p → GivesRows p rows outs → ErasedOutputs p rows outs
-erased_outputs p rows outs law on_base runs (node, one, outputs) =
-    let main = subst (λ main. IsSomeAnd main (λ text. Outputs (setting p) text rows outs)) (sym (ap (last_text 0) one)) outputs in
-    let base = on_base p runs.sound.clocks runs.served runs.sound.least in
-    record {
-      clocks = runs.sound.clocks;
-      least = runs.sound.least;
-      outputs = on_clocks p (clock_in runs.sound.clocks) rows outs law (subst (λ (clock : ℕ → Name → Clock). ProgramOutputs p clock rows outs) (sym base) main);
-    }
+pub erased_outputs : (c : ClockedProgram) (rows outs : List (List ℕ)) → ErasedKeepsOutputs → HasLeastClocks c.program c.clocks → GivesRows c rows outs → ErasedOutputs c.program rows outs
+erased_outputs c rows outs law least outputs = record { clocks = c.clocks; least = least; outputs = on_clocks c.program (clock_in c.clocks) rows outs law outputs }
 
 front : {X : Type 0} (xs ys : List X) → take (length xs) (xs ++ ys) ≡ xs
 front [] ys = refl

@@ -1,6 +1,7 @@
 -- What is made before the trace is first read, and what its turns do.
 use Rattle.std.specs.Prelude.{◌≡◌, ℕ, ◌<◌, ◌≤◌, ◌^◌, false, length, List, [], ◌∷◌, ◌++◌, vec_len, Option, Result, Ok, Err}
 use Rattle.std.specs.Io.KnownBytes.{Appends, Keeps, IsAtEnd}
+use Rattle.hept_ast.specs.Stages.{ClockedProgram}
 use Rattle.hept_ast.specs.declared.tree.Program.{Program}
 use Rattle.ept_reader.specs.Spelling.{IsProgramText}
 use Rattle.step_objects.specs.declared.shape.Values.{Values}
@@ -10,7 +11,7 @@ use Rattle.trace_io.specs.OutputText.{row_line, widest_row, AppendsPart}
 use Rattle.step_cells.specs.Cells.{row_of}
 use Rattle.step_objects.specs.Interfaces.{input_shape, output_shape}
 use Rattle.run_checks.specs.Stops.{IsRunnable}
-use Rattle.plain_stepper.specs.Stepping.{GivesRows, IsReady, Stands, input_count, output_count}
+use Rattle.program_stepper.specs.Stepping.{GivesRows, IsReady, Stands, input_count, output_count}
 use Rattle.hepasync_top.specs.Turns.{LosesRows, IsAhead, IsCutOff, NextIsBad, HasNext}
 use Rattle.hepasync_top.specs.declared.machine.Machine.{Machine}
 use Rattle.run_messages.specs.declared.end.End.{End}
@@ -18,11 +19,11 @@ use Rattle.run_messages.specs.declared.end.End.TheVariants.{Ended, BadRow, Limit
 
 -- it has done the instants of some rows of a program
 pub record HasProgram (m : Machine) : Type 0 where
-  pub program : Program
+  pub accepted : ClockedProgram
   pub rows : List (List ℕ)
-  pub stands : Stands program rows m.stepper
-  pub input_shape : m.inputs ≡ input_shape program
-  pub output_shape : m.outputs ≡ output_shape program
+  pub stands : Stands accepted rows m.stepper
+  pub input_shape : m.inputs ≡ input_shape accepted.program
+  pub output_shape : m.outputs ≡ output_shape accepted.program
 
 -- it may do a turn
 pub record CanTurn (m : Machine) : Type 0 where
@@ -37,12 +38,16 @@ pub record CanTurn (m : Machine) : Type 0 where
   pub writer : widest_row m.outputs ≤ m.writer
 
 -- it has done the instants of these rows of a program that can be run, which have these outputs
-pub record HasDone (p : Program) (m : Machine) (rows outs : List (List ℕ)) : Type 0 where
-  pub runs : IsRunnable p
-  pub stands : Stands p rows m.stepper
-  pub outputs : GivesRows p rows outs
-  pub input_shape : m.inputs ≡ input_shape p
-  pub output_shape : m.outputs ≡ output_shape p
+pub record HasDone (c : ClockedProgram) (m : Machine) (rows outs : List (List ℕ)) : Type 0 where
+  pub runs : IsRunnable c.program
+  pub stands : Stands c rows m.stepper
+  pub outputs : GivesRows c rows outs
+  pub input_shape : m.inputs ≡ input_shape c.program
+  pub output_shape : m.outputs ≡ output_shape c.program
+
+-- it has done nothing yet of this program, which has clocks
+abbrev pub HasBegun : Program → Machine → Type 0
+HasBegun p m = (c : ClockedProgram) × (c.program ≡ p) × HasDone c m [] []
 
 -- what a read of the next line, which has this number, into a row comes to
 abbrev pub ReadsRow : (inputs : List Values) → (number : ℕ) → Reading → (left : Option (List ℕ)) → Result (Unit {0}) End → Reading → (rest : Option (List ℕ)) → (row : List Cell) → Type 0
@@ -60,20 +65,20 @@ EndsHere limit coming ReadFault left = IsCutOff coming left
 EndsHere limit coming other left = ⊥
 
 -- what a turn for the line of this number comes to, after some rows
-abbrev pub Turns : Program → (number : ℕ) → (rows outs : List (List ℕ)) → (coming held : Option (List ℕ)) → Result (Unit {0}) End → Machine → (left now : Option (List ℕ)) → Type 0
-Turns p number rows outs coming held (Ok u) m left now = (row out : List ℕ) × HasDone p m (rows ++ row ∷ []) (outs ++ out ∷ [])
-    × LosesRows (input_shape p) coming (row ∷ []) (to_come m.reader left) × Appends held now (row_line (output_shape p) out)
-Turns p number rows outs coming held (Err Ended) m left now = IsAtEnd coming × IsAhead coming left × Keeps held now
-Turns p number rows outs coming held (Err (BadRow line fault)) m left now = (line ≡ number) × NextIsBad (input_shape p) fault coming × IsAhead coming left × Keeps held now
-Turns p number rows outs coming held (Err ReadFault) m left now = IsCutOff coming left × Keeps held now
-Turns p number rows outs coming held (Err WriteFault) m left now = (row out : List ℕ) × GivesRows p (rows ++ row ∷ []) (outs ++ out ∷ [])
-    × LosesRows (input_shape p) coming (row ∷ []) (to_come m.reader left) × (length m.reader.pending ≤ 65536) × AppendsPart held now (row_line (output_shape p) out)
-Turns p number rows outs coming held (Err other) m left now = ⊥
+abbrev pub Turns : ClockedProgram → (number : ℕ) → (rows outs : List (List ℕ)) → (coming held : Option (List ℕ)) → Result (Unit {0}) End → Machine → (left now : Option (List ℕ)) → Type 0
+Turns c number rows outs coming held (Ok u) m left now = (row out : List ℕ) × HasDone c m (rows ++ row ∷ []) (outs ++ out ∷ [])
+    × LosesRows (input_shape c.program) coming (row ∷ []) (to_come m.reader left) × Appends held now (row_line (output_shape c.program) out)
+Turns c number rows outs coming held (Err Ended) m left now = IsAtEnd coming × IsAhead coming left × Keeps held now
+Turns c number rows outs coming held (Err (BadRow line fault)) m left now = (line ≡ number) × NextIsBad (input_shape c.program) fault coming × IsAhead coming left × Keeps held now
+Turns c number rows outs coming held (Err ReadFault) m left now = IsCutOff coming left × Keeps held now
+Turns c number rows outs coming held (Err WriteFault) m left now = (row out : List ℕ) × GivesRows c (rows ++ row ∷ []) (outs ++ out ∷ [])
+    × LosesRows (input_shape c.program) coming (row ∷ []) (to_come m.reader left) × (length m.reader.pending ≤ 65536) × AppendsPart held now (row_line (output_shape c.program) out)
+Turns c number rows outs coming held (Err other) m left now = ⊥
 
 -- It has done nothing yet of a program that the text spells.
 pub record IsFresh (text : List ℕ) (m : Machine) : Type 0 where
   pub can : CanTurn m
   pub pending : m.reader.pending ≡ []
-  pub program : Program
-  pub spelled : IsProgramText text program
-  pub done : HasDone program m [] []
+  pub accepted : ClockedProgram
+  pub spelled : IsProgramText text accepted.program
+  pub done : HasDone accepted m [] []

@@ -6,9 +6,9 @@ ghost use Rattle.step_objects.specs.Shapes.{FitsShape};
 ghost use Rattle.step_cells.specs.Cells.{row_of};
 ghost use Rattle.hepasync_top.specs.Machine.{ReadsRow, EndsHere};
 
-use hept_ast::{Memory, Program, meaning_laws};
+use hept_ast::{Accepted, Memory, meaning_laws};
 use hept_io::{LineFault, LineReader, Sink, Source};
-use plain_stepper::{Stepper, served_clock_law};
+use program_stepper::Stepper;
 use run_messages::{BadRow, End};
 use std::alloc::Global;
 use step_objects::{Cell, Shape};
@@ -28,7 +28,8 @@ pub(crate) struct Machine {
 
 impl Machine {
     ghost use Rattle.std.specs.Prelude.{◌≡◌, ℕ, ◌≤◌, List, ◌∷◌, ◌++◌, [], Err, OnOk, IfOk};
-    ghost use Rattle.hept_ast.specs.declared.tree.Program.{Program};
+    ghost use Rattle.hept_ast.specs.Stages.{ClockedProgram};
+    ghost use Rattle.accepted_meaning.specs.Ranges.{IsInRange};
     ghost use Rattle.run_checks.specs.Stops.{IsRunnable};
     ghost use Rattle.hept_io.specs.Lines.{to_come};
     ghost use Rattle.hept_io.specs.Outside.{Rose};
@@ -36,14 +37,17 @@ impl Machine {
     ghost use Rattle.hepasync_top.specs.Turns.{RunEnds};
 
     /// Makes all that takes memory, for a program.
-    pub(crate) fn new(alloc: Global, program: &Program) -> Result<Machine, Memory>
-        requires { IsRunnable program.now }
+    pub(crate) fn new(alloc: Global, accepted: &Accepted) -> Result<Machine, Memory>
+        requires runs { IsRunnable accepted.now.program }
+        requires range { IsInRange accepted.now.program }
         ensures can { IfOk result (λ m. CanTurn m) }
-        ensures done { IfOk result (λ m. HasDone program.now m [] []) }
+        ensures done { IfOk result (λ m. HasDone accepted.now m [] []) }
         ensures pending { IfOk result (λ m. m.reader.pending ≡ []) }
     {
-        let stepper = Stepper::new(alloc, program)?;
-        let node = &program.nodes.as_slice()[0];
+        let stepper = Stepper::new(alloc, accepted)?;
+        let program = accepted.program();
+        let last = program.nodes.len() - 1;
+        let node = &program.nodes.as_slice()[last];
         let inputs = Shape::of(alloc, program, node.inputs.as_slice())?;
         let outputs = Shape::of(alloc, program, node.outputs.as_slice())?;
         let writer = RowWriter::new(alloc, &outputs)?;
@@ -71,8 +75,8 @@ impl Machine {
         requires row { FitsShape self.old.inputs self.old.row.items }
         ensures can { CanTurn self.new }
         ensures reader { self.new.reader ≡ self.old.reader }
-        ensures done { (p : Program) (rows outs : List (List ℕ)) → HasDone p self.old rows outs →
-            HasDone p self.new (rows ++ row_of self.old.row.items ∷ []) (outs ++ row_of self.new.values.items ∷ []) }
+        ensures done { (c : ClockedProgram) (rows outs : List (List ℕ)) → HasDone c self.old rows outs →
+            HasDone c self.new (rows ++ row_of self.old.row.items ∷ []) (outs ++ row_of self.new.values.items ∷ []) }
         ensures fits { FitsShape self.new.outputs self.new.values.items }
     {
         self.stepper
@@ -83,8 +87,8 @@ impl Machine {
     fn turn<S: Source, K: Sink>(&mut self, line: u32, trace: &mut S, out: &mut K) -> Result<(), End>
         requires { CanTurn self.old }
         ensures can { OnOk result (CanTurn self.new) }
-        ensures turns { (p : Program) (rows outs : List (List ℕ)) → HasDone p self.old rows outs →
-            Turns p line rows outs (to_come self.old.reader (S.left trace.old)) (K.held out.old) result self.new (S.left trace.new) (K.held out.new) }
+        ensures turns { (c : ClockedProgram) (rows outs : List (List ℕ)) → HasDone c self.old rows outs →
+            Turns c line rows outs (to_come self.old.reader (S.left trace.old)) (K.held out.old) result self.new (S.left trace.new) (K.held out.new) }
         ensures read_fault { result ≡ Err End.ReadFault → Rose (S.faults trace.old) (S.faults trace.new) }
         ensures write_fault { result ≡ Err End.WriteFault → Rose (K.faults out.old) (K.faults out.new) }
         ensures reads { S.faults trace.old ≤ S.faults trace.new }
@@ -107,15 +111,14 @@ impl Machine {
         out: &mut K,
     ) -> End
         requires { CanTurn self.old }
-        ensures ends { (p : Program) → HasDone p self.old [] [] →
-            RunEnds p limit (to_come self.old.reader (S.left trace.old)) (K.held out.old) (S.left trace.new) (K.held out.new) result }
+        ensures ends { (c : ClockedProgram) → HasDone c self.old [] [] →
+            RunEnds c.program limit (to_come self.old.reader (S.left trace.old)) (K.held out.old) (S.left trace.new) (K.held out.new) result }
         ensures read_fault { result ≡ End.ReadFault → Rose (S.faults trace.old) (S.faults trace.new) }
         ensures write_fault { result ≡ End.WriteFault → Rose (K.faults out.old) (K.faults out.new) }
         ensures reads { S.faults trace.old ≤ S.faults trace.new }
         ensures writes { K.faults out.old ≤ K.faults out.new }
     {
         meaning_laws();
-        served_clock_law();
         for counted in 0..limit {
             if let Err(end) = self.turn(counted + 1, trace, out) {
                 return end;

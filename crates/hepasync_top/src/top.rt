@@ -5,7 +5,7 @@ ghost use Rattle.ept_reader.specs.Spelling.{IsProgramText};
 ghost use Rattle.hept_io.specs.Outside.{Rose};
 ghost use Rattle.run_messages.specs.Ends.{status_of};
 ghost use Rattle.run_messages.specs.declared.end.Refusal.{Refusal as AnyRefusal};
-ghost use Rattle.hepasync_top.specs.Machine.{HasDone, IsFresh};
+ghost use Rattle.hepasync_top.specs.Machine.{HasBegun, IsFresh};
 ghost use Rattle.run_checks.specs.Stops.{IsRefused, IsRefusedText, IsRunnable, IsUnreadText};
 ghost use Rattle.hepasync_top.specs.Run.{ComesTo, Ends, EndsFor, EndsWhole, IsBefore, IsFileText, RefusesAll, RefusesExactly, RunsServed, StopsFor, WritesOnlyAfterReading, WrittenWhereTold};
 ghost use Rattle.run_checks.specs.Words.{file_of};
@@ -13,6 +13,7 @@ ghost use Rattle.run_checks.specs.Words.{file_of};
 use crate::machine::Machine;
 use hept_ast::Memory;
 use hept_io::{Gate, Sink, Source, Store, line_laws};
+use read_laws::read_program_laws;
 use run_checks::{file_of, read_checked, read_text};
 use run_messages::{End, write_line};
 use std::alloc::Global;
@@ -50,13 +51,14 @@ fn prepare(alloc: Global, text: &[u8]) -> Result<Machine, End>
     ensures ends { IfErr result (λ e. (e ≡ End.Memory) ⊎ ((r : AnyRefusal) × (e ≡ End.Refused r) × IsRefusedText text.now r)) }
     ensures exactly { (r : AnyRefusal) → IsUnreadText text.now r → MatchResult result (λ _. ⊥) (λ e. (e ≡ End.Refused r) ⊎ (e ≡ End.Memory)) }
     ensures refused { (r : AnyRefusal) → IsRefusedText text.now r → MatchResult result (λ _. ⊥) (λ e. IsRefused e ⊎ (e ≡ End.Memory)) }
-    ensures complete { (p : AnyProgram) → IsProgramText text.now p → IsRunnable p → MatchResult result (λ m. HasDone p m [] []) (λ e. e ≡ End.Memory) }
+    ensures complete { (p : AnyProgram) → IsProgramText text.now p → IsRunnable p → MatchResult result (HasBegun p) (λ e. e ≡ End.Memory) }
 {
     let accepted = match read_checked(alloc, text) {
         Ok(accepted) => accepted,
         Err(end) => return Err(end),
     };
-    match Machine::new(alloc, accepted.program()) {
+    read_program_laws();
+    match Machine::new(alloc, &accepted) {
         Ok(machine) => Ok(machine),
         Err(Memory) => Err(End::Memory),
     }

@@ -35,7 +35,7 @@ use Rattle.run_messages.specs.declared.end.End.{End}
 use Rattle.run_messages.specs.declared.end.End.TheVariants.{Refused, Memory}
 use Rattle.run_messages.specs.declared.end.Refusal.{Refusal}
 use Rattle.run_messages.specs.declared.end.Refusal.TheVariants.{NotServed}
-use Rattle.plain_stepper.specs.Served.{IsServed}
+use Rattle.served_programs.specs.Served.{IsServed}
 use Rattle.run_checks.specs.Stops.{HasMain, IsRefused, IsRefusedByReads, by_clocks, by_initial, by_causal, IsRefusedProgram, by_types, by_choice, by_reads, by_form, IsRefusedText, IsRunnable, IsSound, IsUnreadText, end_of_acceptance, end_of_choice, end_of_clocks, end_of_text, end_of_types}
 
 -- ---- programs
@@ -211,6 +211,9 @@ read_ends text program (Ok c) spelled stops = stops
 read_ends text program (Err e) spelled (inl memory) = inl memory
 read_ends text program (Err e) spelled (inr (r, is, why)) = inr (r, is, inr (program, spelled, why))
 
--- a test that failed
+-- a test that held, and one that failed
+pub is_so : (b : Bool) (P : Type 0) → b ≡ true → (IsTrue b ↔ P) → P
+is_so b P e h = h.0 e
+
 pub not_so : (b : Bool) (P : Type 0) → b ≡ false → (IsTrue b ↔ P) → P → ⊥
 not_so b P e h p = let t : b ≡ true = h.1 p in absurd cc

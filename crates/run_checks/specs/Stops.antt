@@ -31,7 +31,7 @@ use Rattle.hept_ast.specs.Initial.{IsInitialised, IsMayBeNil}
 use Rattle.hept_ast.specs.Stages.{HasLeastClocks}
 use Rattle.hept_ast.specs.Texts.{Name}
 use Rattle.hept_ast.specs.declared.name.Place.{Place}
-use Rattle.plain_stepper.specs.Served.{IsServed}
+use Rattle.served_programs.specs.Served.{IsServed}
 
 -- ---- files
 

@@ -6,15 +6,15 @@ ghost use Rattle.hept_ast.specs.Stages.{HasLeastClocks};
 ghost use Rattle.causality.specs.Acceptance.{IsAcceptable};
 ghost use Rattle.run_messages.specs.declared.end.Refusal.{Refusal as AnyRefusal};
 ghost use Rattle.ept_reader.specs.Spelling.{IsProgramText};
-ghost use Rattle.plain_stepper.specs.Served.{IsServed};
+ghost use Rattle.served_programs.specs.Served.{IsServed};
 ghost use Rattle.run_checks.specs.Stops.{HasMain, IsRefused, IsRefusedByReads, IsRefusedProgram, IsRefusedText, IsRunnable, IsUnreadText, end_of_acceptance, end_of_choice, end_of_clocks, end_of_text, end_of_types};
 
 use causality::{AcceptFault, CausalFault, InitFault, accept};
 use clock_calculus::{ClockFault, check_clocks, clock_laws};
 use ept_reader::{ReadFault, read_program};
 use hept_ast::{Accepted, Memory, Program, Typed};
-use plain_stepper::is_served;
 use run_messages::{End, Refusal};
+use served_programs::is_served;
 use std::alloc::Global;
 use type_futures::{TopFault, TypeFault, check_types, choose};
 

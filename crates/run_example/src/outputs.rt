@@ -68,3 +68,39 @@ fn no_inputs(rt: HostRuntime) -> Result<(), Fail> {
     let text = b"node main() returns (y:int) let y = 0 fby (y + 1) tel";
     writes(&rt, rt.alloc(), text, b"\n\n\n", b"0\n1\n2\n")
 }
+
+// Equations stand in any order.
+#[test]
+fn any_order(rt: HostRuntime) -> Result<(), Fail> {
+    let text = b"node main(x:int) returns (y:int) var a:int; let y = a + 1; a = x tel";
+    writes(&rt, rt.alloc(), text, b"4\n", b"5\n")
+}
+
+// The first operand of a `fby` is read at the first instant, after its equation.
+#[test]
+fn first_value_of_a_later_equation(rt: HostRuntime) -> Result<(), Fail> {
+    let text = b"node main(x:int) returns (y:int; z:int) let y = z fby x; z = x + 5 tel";
+    writes(&rt, rt.alloc(), text, b"1\n2\n3\n", b"6 6\n1 7\n2 8\n")
+}
+
+#[test]
+fn arrow_and_pre(rt: HostRuntime) -> Result<(), Fail> {
+    let text =
+        b"node main(x:int) returns (y,z:int) let y = 0 -> x - pre x; z = 7 -> pre (z + x) tel";
+    writes(&rt, rt.alloc(), text, b"5\n7\n4\n", b"0 7\n2 12\n-3 19\n")
+}
+
+#[test]
+fn nested_memories(rt: HostRuntime) -> Result<(), Fail> {
+    let text = b"node main(x:int) returns (y:int) let y = 1 + (2 -> pre (3 fby x)) tel";
+    let trace = b"10\n20\n30\n40\n";
+    writes(&rt, rt.alloc(), text, trace, b"3\n4\n11\n21\n")
+}
+
+// The last node is the one that is run.
+#[test]
+fn last_node(rt: HostRuntime) -> Result<(), Fail> {
+    let text =
+        b"node main(x:int) returns (y:int) let y = x tel node second(x,z:int) returns (y:int) let y = z - x tel";
+    writes(&rt, rt.alloc(), text, b"3 1\n", b"-2\n")
+}

@@ -26,16 +26,9 @@ fn not_served<R: Abort>(rt: &R, alloc: Global, text: &[u8]) -> Result<(), Fail> 
 }
 
 #[test]
-fn read_before_its_equation(rt: HostRuntime) -> Result<(), Fail> {
-    let text = b"node main(x:int) returns (y:int; z:int) let y = z; z = x tel";
-    not_served(&rt, rt.alloc(), text)?;
-    let text = b"node main(x:int) returns (y:int; z:int) let y = z fby x; z = x tel";
-    not_served(&rt, rt.alloc(), text)
-}
-
-#[test]
 fn other_form(rt: HostRuntime) -> Result<(), Fail> {
-    let text = b"node main(x:int) returns (y:int) let y = 0 -> x tel";
+    let text =
+        b"node main(c:bool; x:int) returns (y:int) let y = merge c (true -> x when c) (false -> x whenot c) tel";
     not_served(&rt, rt.alloc(), text)
 }
 
@@ -52,9 +45,17 @@ fn block(rt: HostRuntime) -> Result<(), Fail> {
 }
 
 #[test]
-fn two_nodes(rt: HostRuntime) -> Result<(), Fail> {
+fn call(rt: HostRuntime) -> Result<(), Fail> {
     let text =
-        b"node f(x:int) returns (y:int) let y = x tel node main(x:int) returns (y:int) let y = x tel";
+        b"node f(x:int) returns (y:int) let y = x tel node main(x:int) returns (y:int) let y = f(x) tel";
+    not_served(&rt, rt.alloc(), text)
+}
+
+// Each node counts, also one that isn't run.
+#[test]
+fn other_node(rt: HostRuntime) -> Result<(), Fail> {
+    let text =
+        b"node f(x:int) returns (last y:int = 0) let y = x tel node main(x:int) returns (y:int) let y = x tel";
     not_served(&rt, rt.alloc(), text)
 }
 

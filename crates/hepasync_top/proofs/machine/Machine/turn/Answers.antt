@@ -6,8 +6,8 @@ use Rattle.step_cells.specs.declared.cell.Cell.{Cell}
 use Rattle.step_cells.specs.Cells.{row_of}
 use Rattle.trace_io.specs.OutputText.{row_line, AppendsPart}
 use Rattle.step_objects.specs.Shapes.{FitsShape}
-use Rattle.plain_stepper.proofs.AtInstant.{rewritten}
 use Rattle.hepasync_top.proofs.LineSteps.{loses_row}
+use Rattle.hepasync_top.proofs.NextOutputs.{written_back}
 use Rattle.hepasync_top.proofs.machine.Machine.turn.Goals as goal
 
 pub step-requires-clause-can : goal.step-requires-clause-can
@@ -17,7 +17,7 @@ step-requires-clause-can g c =
     record {
       goes_on = c.in_ok-read_line.ensures.row.0;
       ready = can.ready;
-      program = record { program = k.program; rows = k.rows; stands = k.stands; input_shape = k.input_shape; output_shape = k.output_shape };
+      program = record { accepted = k.accepted; rows = k.rows; stands = k.stands; input_shape = k.input_shape; output_shape = k.output_shape };
       inputs = can.inputs;
       few = can.few;
       row = can.row;
@@ -28,12 +28,12 @@ step-requires-clause-can g c =
 
 pub step-requires-clause-row : goal.step-requires-clause-row
 step-requires-clause-row g c =
-    subst (λ (cells : List Cell). FitsShape c.args.self.now.inputs cells) (sym (rewritten c.args.self.now.row c.read_line.new.row (c.read_line.auto.row ∙ c.as_mut_slice-row.ensures.len ∙ c.args.self.now.row.ok.0)))
+    subst (λ (cells : List Cell). FitsShape c.args.self.now.inputs cells) (sym (written_back c.args.self.now.row.items c.read_line.new.row c.args.self.now.row.len (sym (c.read_line.auto.row ∙ c.as_mut_slice-row.ensures.len))))
     c.in_ok-read_line.ensures.fits
 
 pub returns-in-Ok-clause-turns : goal.returns-in-Ok-clause-turns
-returns-in-Ok-clause-turns g c = λ p rows outs h.
-    let done = c.step.ensures.done p rows outs (record { runs = h.runs; stands = h.stands; outputs = h.outputs; input_shape = h.input_shape; output_shape = h.output_shape }) in (
+returns-in-Ok-clause-turns g c = λ a rows outs h.
+    let done = c.step.ensures.done a rows outs (record { runs = h.runs; stands = h.stands; outputs = h.outputs; input_shape = h.input_shape; output_shape = h.output_shape }) in (
       _,
       _,
       record { runs = done.runs; stands = done.stands; outputs = done.outputs; input_shape = done.input_shape; output_shape = done.output_shape },
@@ -43,8 +43,8 @@ returns-in-Ok-clause-turns g c = λ p rows outs h.
     )
 
 pub returns-in-Err-clause-turns : goal.returns-in-Err-clause-turns
-returns-in-Err-clause-turns g c = λ p rows outs h.
-    let done = c.step.ensures.done p rows outs (record { runs = h.runs; stands = h.stands; outputs = h.outputs; input_shape = h.input_shape; output_shape = h.output_shape }) in (
+returns-in-Err-clause-turns g c = λ a rows outs h.
+    let done = c.step.ensures.done a rows outs (record { runs = h.runs; stands = h.stands; outputs = h.outputs; input_shape = h.input_shape; output_shape = h.output_shape }) in (
       _,
       _,
       done.outputs,

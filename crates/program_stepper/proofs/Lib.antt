@@ -1,0 +1,6 @@
+pub mod RowShapes
+pub mod Interfaces
+mod Calls
+mod Planning
+mod RowByRow
+pub mod AtInstant
