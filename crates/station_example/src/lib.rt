@@ -15,7 +15,7 @@ mod standing;
 mod tests;
 mod worker;
 
-pub use owner::{offer, offer_once, offer_pairs, offer_plain};
+pub use owner::{offer, offer_once, offer_pair, offer_pairs, offer_plain};
 pub use runs::{one_place, run};
 pub use standing::{ServerBack, with_worker};
 pub use worker::{SumOwner, SumServer, Sums, TURNS, complete, do_one, stand, work};

@@ -1,12 +1,12 @@
 // An owner and workers at a queue of one place.
 ghost use Rattle.std.specs.Prelude.{◌≡◌, ◌^◌, ◌<◌, ◌≤◌, [], length};
-ghost use Rattle.station_example.specs.Fresh.{TakesOne};
+ghost use Rattle.station_example.specs.Open.{IsOpen, TakesOne};
 ghost use Rattle.station_rule.specs.Seats.{IsSeatOf, IsSameSeat, IsOwner, IsServer, IsIdle, book};
 
 use crate::owner::{offer_once, offer_plain};
 use crate::worker::{SumOwner, SumServer, Sums, complete, do_one, work};
 use input_queue::{Take, room, try_take};
-use station_rule::Cell;
+use station_rule::{Cell, Pool};
 use std::sync::Wait;
 use std::thread;
 use std::thread::Threads;
@@ -16,20 +16,21 @@ pub fn one_place<R: Wait>(
     rt: &R,
     station: &Sums,
     owner: &mut SumOwner,
+    pool: &mut Pool,
     first: &mut SumServer,
     second: &mut SumServer,
 ) -> bool
-    requires owner { IsSeatOf station.now owner.old.seat × IsOwner owner.old.seat × (owner.old.seat.me.0.entry ≡ []) × (owner.old.seat.me.0.closed ≡ 0) × (book owner.old.seat ≡ []) }
+    requires owner { IsOpen station.now owner.old.seat pool.old × (book owner.old.seat ≡ []) }
     requires first { IsSeatOf station.now first.old.seat × IsServer first.old.seat × IsIdle first.old.seat }
     requires second { IsSeatOf station.now second.old.seat × IsServer second.old.seat × IsIdle second.old.seat }
-    requires instance { TakesOne station.now.layout 0 × (0 < station.now.layout.components) × (1 < station.now.layout.slots) }
+    requires instance { TakesOne station.now.layout 0 × (0 < station.now.layout.components) }
 {
-    let empty_queue = room(station, owner, 0);
-    if !offer_once(station, owner, 0, &[Cell::Value(5)], 0) {
+    let empty_queue = room(station, owner, pool, 0);
+    if offer_once(station, owner, pool, 0, &[Cell::Value(5)]).is_none() {
         return false;
     }
-    let full_queue = !room(station, owner, 0);
-    let refused = !offer_once(station, owner, 0, &[Cell::Value(6)], 1);
+    let full_queue = !room(station, owner, pool, 0);
+    let refused = offer_once(station, owner, pool, 0, &[Cell::Value(6)]).is_none();
     let job = match try_take(station, first, 0) {
         Take::Taken(job) => job,
         Take::Empty => return false,
@@ -45,7 +46,7 @@ pub fn one_place<R: Wait>(
         && first_call
         && busy
         && none_waits
-        && room(station, owner, 0)
+        && room(station, owner, pool, 0)
 }
 
 fn is_busy<R: Wait>(rt: &R, station: &Sums, server: &mut SumServer) -> bool
@@ -63,13 +64,12 @@ fn is_busy<R: Wait>(rt: &R, station: &Sums, server: &mut SumServer) -> bool
     }
 }
 
-fn offer_and_close(station: &Sums, owner: &mut SumOwner, count: u32) -> u32
-    requires owner { IsSeatOf station.now owner.old.seat × IsOwner owner.old.seat × (owner.old.seat.me.0.entry ≡ []) × (owner.old.seat.me.0.closed ≡ 0) × (book owner.old.seat ≡ []) }
+fn offer_and_close(station: &Sums, owner: &mut SumOwner, pool: &mut Pool, count: u32) -> u32
+    requires owner { IsOpen station.now owner.old.seat pool.old × (book owner.old.seat ≡ []) }
     requires instance { TakesOne station.now.layout 0 }
-    requires slots { count ≤ station.now.layout.slots }
     ensures { IsSameSeat owner.old.seat owner.new.seat × IsSeatOf station.now owner.new.seat × IsOwner owner.new.seat }
 {
-    let offered = offer_plain(station, owner, count);
+    let offered = offer_plain(station, owner, pool, count);
     station.close(owner);
     offered
 }
@@ -79,21 +79,22 @@ pub fn run<R: Threads + Wait + Sync>(
     rt: &R,
     station: &Sums,
     owner: SumOwner,
+    pool: Pool,
     server: SumServer,
     count: u32,
 ) -> (u32, u64)
-    requires owner { IsSeatOf station.now owner.seat × IsOwner owner.seat × (owner.seat.me.0.entry ≡ []) × (owner.seat.me.0.closed ≡ 0) × (book owner.seat ≡ []) }
+    requires owner { IsOpen station.now owner.seat pool × (book owner.seat ≡ []) }
     requires server { IsSeatOf station.now server.seat × IsServer server.seat × IsIdle server.seat }
     requires instance { TakesOne station.now.layout 0 × (0 < station.now.layout.components) }
-    requires slots { count ≤ station.now.layout.slots }
 {
     let mut owner = owner;
+    let mut pool = pool;
     let mut server = server;
     thread::join(
         rt,
         move ||
-            requires { IsSeatOf station.now owner.seat × IsOwner owner.seat × (owner.seat.me.0.entry ≡ []) × (owner.seat.me.0.closed ≡ 0) × (book owner.seat ≡ []) × TakesOne station.now.layout 0 × (count ≤ station.now.layout.slots) }
-        { offer_and_close(station, &mut owner, count) },
+            requires { IsOpen station.now owner.seat pool × (book owner.seat ≡ []) × TakesOne station.now.layout 0 }
+        { offer_and_close(station, &mut owner, &mut pool, count) },
         move ||
             requires { IsSeatOf station.now server.seat × IsServer server.seat × IsIdle server.seat × TakesOne station.now.layout 0 × (0 < station.now.layout.components) }
         { work(rt, station, &mut server) },

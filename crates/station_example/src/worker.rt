@@ -9,7 +9,7 @@ ghost use Rattle.step_cells.specs.declared.cell.Cell.TheVariants.{Held};
 ghost use Rattle.atomic_table.specs.Table.{rest};
 ghost use Rattle.station_example.specs.Total.{StandsFor, outputs};
 ghost use Rattle.station_rule.specs.Seats.{IsSeatOf, IsSameSeat, IsServer, IsIdle, IsTaken, HasInstance};
-ghost use Rattle.station_example.specs.Fresh.{TakesOne};
+ghost use Rattle.station_example.specs.Open.{TakesOne};
 
 use crate::{Adds, Sum};
 use future_slots::{Got, fill, try_get};

@@ -1,37 +1,33 @@
-use Rattle.std.proofs.Common.{◌≤◌, ◌+◌, ap, sym, subst, ℕ, List, length, arith, false}
-use Rattle.station_rule.specs.declared.view.Entry.{Entry}
-use Rattle.station_rule.specs.Book.{IsLive}
-use Rattle.station_rule.specs.Seats.{book}
-use Rattle.station_example.specs.Fresh.{Fresh}
-use Rattle.station_example.specs.Total.{outputs}
-use Rattle.station_example.proofs.Freshness.{fresh_unnamed, fresh_call, just_given}
+use Rattle.std.proofs.Common.{slice_index, arith, ap}
+use Rattle.station_rule.specs.Key.{Key}
+use Rattle.station_rule.proofs.Pooled.{last_is}
+use Rattle.station_example.proofs.Kept.{issued_le}
 use Rattle.station_example.proofs.owner.offer_once.Goals as goal
+
+pub free_slot-slot-requires-clause-generations : goal.free_slot-slot-requires-clause-generations
+free_slot-slot-requires-clause-generations c z near none =
+    let o = c.args.owner.now.seat.me.0 in
+    let is = c.requires.owner.0.own in
+    let e = is.slots in
+    let l = last_is o c.args.pool.now is z (omega arith) in
+    let i = issued_le z o.book in
+    let few = c.requires.owner.1 in omega arith
 
 pub try_offer-requires-clause-call : goal.try_offer-requires-clause-call
 try_offer-requires-clause-call c =
-    let b : List Entry = book c.args.owner.now.seat in
-    let s : ℕ = c.args.slot in
-    let fresh = c.requires.slot.0 in
-    let none = ap length (fresh.unissued s (let z : s ≤ s = omega arith in z)) in
+    let is = c.requires.owner.0.own in
+    let s = c.free_slot-slot.ensures in
+    let slots = is.slots in
+    let key = ap (λ (k : Key). k.slots) c.requires.owner.0.seat.1 in
+    let near = s.near in
     let one = c.requires.input.0 in
-    let width = c.requires.instance.width in record {
-      opened = c.requires.owner.3;
+    let width = c.requires.instance.width in
+    let none = s.unnamed in record {
+      opened = c.requires.owner.0.closed;
       own = c.requires.instance.own;
       size = omega arith;
-      slot = c.requires.slot.1;
-      next = omega arith;
-      unnamed = fresh_unnamed b c.args.owner.now.seat.me.0.seen s fresh;
-      handles = λ j h at. let p = c.requires.input.1 j h at in let less = p.2 in (p.0, p.1, (λ e. omega arith), p.3);
+      slot = omega arith;
+      next = s.next;
+      unnamed = none;
+      handles = λ j h at. (let p = c.requires.input.1 j h at in let told = p.0.told in (p.0.first, p.0.last, (λ e. let t = ap (slice_index c.args.pool.now.counts.told.items) e in omega arith), p.1));
     }
-
-pub returns-in-Offered-clause-offered : goal.returns-in-Offered-clause-offered
-returns-in-Offered-clause-offered c _ =
-    let a = c.in-Offered.ensures.answer.3.1 in
-    let b : List Entry = book c.args.owner.now.seat in
-    let s : ℕ = c.args.slot in
-    let few = c.args.station.now.placed.narrow in
-    let fresh = c.requires.slot.0 in (
-      subst (λ (z : List Entry). Fresh z (s + 1)) (sym a.1)
-          (fresh_call outputs b c.args.instance false c.args.input.now record { slot = s; generation = 1 } a.0 fresh a.2 (λ j h at. let p = c.requires.input.1 j h at in let near = p.3 in (p.2, omega arith))),
-      subst (λ (z : List Entry). IsLive z s 1) (sym a.1) (just_given b a.0 s fresh a.2.slot),
-    )

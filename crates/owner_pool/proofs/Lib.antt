@@ -1,0 +1,5 @@
+pub mod Splitting
+pub mod Names
+pub mod Room
+pub mod Inputs
+pub mod Offering
