@@ -12,7 +12,7 @@ use std::alloc::{AllocError, Global};
 use step_plans::Instruction;
 
 /// The number of a variable's value.
-fn register_of(x: &Name, variables: &[Name], registers: &[u32]) -> u32
+pub fn register_of(x: &Name, variables: &[Name], registers: &[u32]) -> u32
     requires known { length registers.now ≡ length variables.now }
     requires among { is_in x.now variables.now ≡ true }
     ensures { result ≡ slice_index registers.now (place_in x.now variables.now) }

@@ -9,5 +9,5 @@ mod laws;
 
 pub use constants::{constant, position, tag};
 pub use draft::Draft;
-pub use expressions::emit;
+pub use expressions::{emit, register_of};
 pub use laws::plain_laws;
