@@ -1,5 +1,0 @@
-pub mod Buildable
-pub mod Building
-pub mod Grounds
-pub mod Rights
-pub mod Equations
