@@ -1,6 +1,5 @@
 pub mod ServedForms
 pub mod ServedNodes
-pub mod OnBase
 pub mod LoweredFlat
 pub mod NamedFlat
 pub mod OrderedFlat

@@ -1,5 +1,5 @@
 -- A flat core stays flat while subexpressions become variables.
-use Rattle.std.proofs.Common.{◌≡◌, List, [], ◌∷◌, ◌++◌, refl, sym, subst, ◌∙◌}
+use Rattle.std.proofs.Common.{List, [], ◌∷◌, ◌++◌, refl, sym, subst}
 use Rattle.std.specs.Prelude.{All}
 use Rattle.std.proofs.lemmas.List.Elements.{All-nil, All-cons, All-head, All-tail, All-append}
 use Rattle.hept_ast.specs.Texts.{Name}
@@ -12,34 +12,38 @@ use Rattle.hept_ast.specs.declared.tree.MergeBranch.{MergeBranch}
 use Rattle.hept_ast.specs.declared.tree.Ty.{Ty}
 use Rattle.core_naming.specs.Names.{IsNaming, Names, NamesInNode, new_equation, with_right}
 use Rattle.naming_rules.specs.Namings.{no_naming, one_more}
-use Rattle.naming_rules.proofs.NamedShapes.{NamedCases, by_names}
+use Rattle.naming_rules.proofs.NamedShapes.{NamedCases, branch_at, by_names}
 use Rattle.sound_expressions.proofs.Expressions.{all_left, all_right}
 use Rattle.flat_cores.specs.Flat.{IsFlatCore, IsFlatEquation}
 use Rattle.flat_cores.specs.FlatLaws.{NamingKeepsFlat}
-use Rattle.flat_cores.proofs.ServedForms.{Served, served_var, served_unary, served_binary, served_if, served_fby, served_pre, served_arrow, of_unary, of_binary, of_if, of_fby, of_pre, of_arrow, no_when, no_merge, no_call, no_async, no_get}
+use Rattle.flat_cores.proofs.ServedForms.{Served, served_var, served_unary, served_binary, served_if, served_fby, served_pre, served_arrow, of_unary, of_binary, of_if, of_fby, of_pre, of_arrow, of_when, of_merge, of_branch, served_when, served_merge, served_branch, ServedBranches, no_call, no_async, no_get}
 
--- what stays of a served expression on a clock, and what was taken out
-record StaysServed (a : Expr) (d c : Clock) (r : Expr) : Type 0 where
+-- what stays of a served expression, and what was taken out
+record StaysServed (a r : Expr) : Type 0 where
   right : Served r
   taken : Served a
-  clock : d ≡ c
+
+-- the same of a merge's branches
+record StayServed (a : Expr) (ms : List MergeBranch) : Type 0 where
+  values : ServedBranches ms
+  taken : Served a
 
 module _ (x : Name) (a : Expr) (d : Clock) where
   abbrev Q : Clock → Expr → Expr → Type 0
-  Q c e r = Served e → StaysServed a d c r
+  Q c e r = Served e → StaysServed a r
 
   abbrev QA : Clock → List Expr → List Expr → Type 0
   QA c es ms = Unit {0}
 
   abbrev QB : Name → Clock → List MergeBranch → List MergeBranch → Type 0
-  QB y c bs ms = Unit {0}
+  QB y c bs ms = ServedBranches bs → StayServed a ms
 
-  with : {c : Clock} {m r : Expr} → StaysServed a d c m → Served r → StaysServed a d c r
-  with h r = record { right = r; taken = h.taken; clock = h.clock }
+  with : {m r : Expr} → StaysServed a m → Served r → StaysServed a r
+  with h r = record { right = r; taken = h.taken }
 
   cases : NamedCases x a d Q QA QB
   cases = record {
-    at_whole = λ h. record { right = served_var a.place x; taken = h; clock = refl };
+    at_whole = λ h. record { right = served_var a.place x; taken = h };
     at_unary = λ c p op b m q h. let s = q (of_unary p op b h) in with s (served_unary p op m s.right);
     at_left = λ c p op b f m q h. let o = of_binary p op b f h in let s = q o.0 in with s (served_binary p op m f s.right o.1);
     at_right = λ c p op b f m n q h. let o = of_binary p op b f h in let s = q o.1 in with s (served_binary p op b m o.0 s.right);
@@ -51,18 +55,24 @@ module _ (x : Name) (a : Expr) (d : Clock) where
     at_pre = λ c p b m q h. let s = q (of_pre p b h) in with s (served_pre p m s.right);
     at_arrow_first = λ c p b f m q h. let o = of_arrow p b f h in let s = q o.0 in with s (served_arrow p m f s.right o.1);
     at_arrow_next = λ c p b f m q h. let o = of_arrow p b f h in let s = q o.1 in with s (served_arrow p b m o.0 s.right);
-    at_when = λ c p b m tag y q h. absurd (no_when p b tag y h);
-    at_merge = λ c p y bs ms q h. absurd (no_merge p y bs h);
+    at_when = λ c p b m tag y q h. let s = q (of_when p b tag y h) in with s (served_when p m tag y s.right);
+    at_merge = λ c p y bs ms q h. let s = q (of_merge p y bs h) in record { right = served_merge p y ms s.values; taken = s.taken };
     at_call = λ c p f es ms q h. absurd (no_call p f es h);
     at_async = λ c p k f es ms q h. absurd (no_async p k f es h);
     at_get = λ c p b m q h. absurd (no_get p b h);
     this_one = λ c e m es q. tt;
     later_one = λ c e es ms q. tt;
-    this_value = λ y c p tag e m bs q. tt;
-    later_value = λ y c b bs ms q. tt;
+    this_value = λ y c p tag e m bs q h.
+        let o = of_branch (branch_at p tag e) bs h in
+        let s = q o.0 in
+        record { values = served_branch (branch_at p tag m) bs s.right o.1; taken = s.taken };
+    later_value = λ y c b bs ms q h.
+        let o = of_branch b bs h in
+        let s = q o.1 in
+        record { values = served_branch b ms o.0 s.values; taken = s.taken };
   }
 
-  stays_served : (c : Clock) (e r : Expr) → Names x a d c e r → Served e → StaysServed a d c r
+  stays_served : (c : Clock) (e r : Expr) → Names x a d c e r → Served e → StaysServed a r
   stays_served c e r n = by_names x a d Q QA QB cases c e r n
 
 -- ---- nodes
@@ -73,8 +83,8 @@ flat_node x a d t node moved n h =
     let here = all_right IsFlatEquation n.front (n.equation ∷ n.back) all in
     let flat = All-head IsFlatEquation n.equation n.back here in
     let s = stays_served x a d n.equation.clock.steps n.equation.right n.right n.named flat.forms in
-    let new : IsFlatEquation (new_equation x a d n.equation.resets) = record { name = x; left = refl; clock = s.clock ∙ flat.clock; resets = flat.resets; forms = s.taken } in
-    let changed : IsFlatEquation (with_right n.equation n.right) = record { name = flat.name; left = flat.left; clock = flat.clock; resets = flat.resets; forms = s.right } in
+    let new : IsFlatEquation (new_equation x a d n.equation.resets) = record { name = x; left = refl; resets = flat.resets; forms = s.taken } in
+    let changed : IsFlatEquation (with_right n.equation n.right) = record { name = flat.name; left = flat.left; resets = flat.resets; forms = s.right } in
     subst (All IsFlatEquation) (sym n.others)
     (flat_parts n.front (with_right n.equation n.right) n.back (new_equation x a d n.equation.resets) (all_left IsFlatEquation n.front (n.equation ∷ n.back) all) changed
     (All-tail IsFlatEquation n.equation n.back here) new)

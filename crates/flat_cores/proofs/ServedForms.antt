@@ -1,6 +1,7 @@
 -- Expressions of served forms, form by form.
-use Rattle.std.proofs.Common.{◌≡◌, ℕ, true, false, List, [], ◌++◌, refl, sym, ap, subst, ◌∙◌}
+use Rattle.std.proofs.Common.{◌≡◌, ℕ, true, false, List, [], ◌∷◌, ◌++◌, refl, sym, ap, subst, ◌∙◌}
 use Rattle.std.specs.Prelude.{All, IsTrue}
+use Rattle.std.specs.List.{flat_map}
 use Rattle.std.proofs.lemmas.List.Elements.{All-nil, All-cons, All-head, All-tail, All-append}
 use Rattle.hept_ast.specs.Texts.{Name}
 use Rattle.hept_ast.specs.Parts.{below, inside}
@@ -14,7 +15,7 @@ use Rattle.hept_ast.specs.declared.tree.MergeBranch.{MergeBranch}
 use Rattle.hept_ast.specs.declared.tree.Form.{Form, out-Form}
 use Rattle.hept_ast.specs.declared.tree.Form.TheOpen.{Form-F}
 use Rattle.hept_ast.specs.declared.tree.Form.TheVariants as form
-use Rattle.hept_ast.proofs.FormsOf.{below-Var, below-Unary, below-Binary, below-If, below-Fby, below-Pre, below-Arrow}
+use Rattle.hept_ast.proofs.FormsOf.{below-Var, below-Unary, below-Binary, below-If, below-Fby, below-Pre, below-Arrow, below-When, below-Merge}
 use Rattle.naming_rules.proofs.Shapes.{at, out_Last, out_Unary, out_Binary, out_If, out_Fby, out_Pre, out_Arrow, out_When, out_Merge, out_Call, out_AsyncCall, out_AsyncConst, out_Get, out_Var}
 use Rattle.served_programs.specs.Served.{is_served_form}
 use Rattle.sound_expressions.proofs.Expressions.{all_left, all_right}
@@ -54,6 +55,19 @@ served_arrow p a b h k = served_of p (form.Arrow a b) (Form-F.Arrow a b) (inside
 pub served_var : (p : Place) (x : Name) → Served (at p (form.Var x))
 served_var p x = served_of p (form.Var x) (Form-F.Var x) [] (out_Var x) refl (below-Var x) (All-nil HasServedForm)
 
+pub served_when : (p : Place) (a : Expr) (tag : Tag) (x : Name) → Served a → Served (at p (form.When a tag x))
+served_when p a tag x h = served_of p (form.When a tag x) (Form-F.When a tag x) (inside a) (out_When a tag x) refl (below-When a tag x) h
+
+-- the values of a merge's branches
+abbrev pub ServedBranches : List MergeBranch → Type 0
+ServedBranches bs = All HasServedForm (flat_map (λ b. inside b.value) bs)
+
+pub served_merge : (p : Place) (x : Name) (bs : List MergeBranch) → ServedBranches bs → Served (at p (form.Merge x bs))
+served_merge p x bs h = served_of p (form.Merge x bs) (Form-F.Merge x bs) (flat_map (λ b. inside b.value) bs) (out_Merge x bs) refl (below-Merge x bs) h
+
+pub served_branch : (b : MergeBranch) (bs : List MergeBranch) → Served b.value → ServedBranches bs → ServedBranches (b ∷ bs)
+served_branch b bs h k = All-append HasServedForm (inside b.value) (flat_map (λ b. inside b.value) bs) h k
+
 -- ---- and back
 
 operands_of : (p : Place) (f : Form) (es : List Expr) → below f ≡ es → Served (at p f) → All HasServedForm es
@@ -83,6 +97,15 @@ of_pre p a h = operands_of p (form.Pre a) (inside a) (below-Pre a) h
 pub of_arrow : (p : Place) (a b : Expr) → Served (at p (form.Arrow a b)) → Served a × Served b
 of_arrow p a b h = two_of a b (operands_of p (form.Arrow a b) (inside a ++ inside b) (below-Arrow a b) h)
 
+pub of_when : (p : Place) (a : Expr) (tag : Tag) (x : Name) → Served (at p (form.When a tag x)) → Served a
+of_when p a tag x h = operands_of p (form.When a tag x) (inside a) (below-When a tag x) h
+
+pub of_merge : (p : Place) (x : Name) (bs : List MergeBranch) → Served (at p (form.Merge x bs)) → ServedBranches bs
+of_merge p x bs h = operands_of p (form.Merge x bs) (flat_map (λ b. inside b.value) bs) (below-Merge x bs) h
+
+pub of_branch : (b : MergeBranch) (bs : List MergeBranch) → ServedBranches (b ∷ bs) → Served b.value × ServedBranches bs
+of_branch b bs h = (all_left HasServedForm (inside b.value) (flat_map (λ b. inside b.value) bs) h, all_right HasServedForm (inside b.value) (flat_map (λ b. inside b.value) bs) h)
+
 -- ---- forms that are not served
 
 not_served : (p : Place) (f : Form) (v : Form-F Form Expr MergeBranch) → out-Form f ≡ v → is_served_form v ≡ false → Served (at p f) → ⊥
@@ -93,12 +116,6 @@ not_served p f v o n h =
 
 pub no_last : (p : Place) (x : Name) → Served (at p (form.Last x)) → ⊥
 no_last p x h = not_served p (form.Last x) (Form-F.Last x) (out_Last x) refl h
-
-pub no_when : (p : Place) (a : Expr) (tag : Tag) (x : Name) → Served (at p (form.When a tag x)) → ⊥
-no_when p a tag x h = not_served p (form.When a tag x) (Form-F.When a tag x) (out_When a tag x) refl h
-
-pub no_merge : (p : Place) (x : Name) (bs : List MergeBranch) → Served (at p (form.Merge x bs)) → ⊥
-no_merge p x bs h = not_served p (form.Merge x bs) (Form-F.Merge x bs) (out_Merge x bs) refl h
 
 pub no_call : (p : Place) (f : Name) (args : List Expr) → Served (at p (form.Call f args)) → ⊥
 no_call p f args h = not_served p (form.Call f args) (Form-F.Call f args) (out_Call f args) refl h

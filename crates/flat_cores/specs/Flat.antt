@@ -1,4 +1,4 @@
--- Cores of the forms of served programs: equations of one variable each, on the base clock and without resets.
+-- Cores of the forms of served programs: equations of one variable each, on any clock and without resets.
 use Rattle.std.specs.Prelude.{◌≡◌, IsTrue, [], ◌∷◌, All}
 use Rattle.hept_ast.specs.Texts.{Name}
 use Rattle.hept_ast.specs.Parts.{inside}
@@ -10,7 +10,6 @@ use Rattle.served_programs.specs.Served.{is_served_form}
 pub record IsFlatEquation (e : CoreEquation) : Type 0 where
   pub name : Name
   pub left : e.left ≡ name ∷ []
-  pub clock : e.clock.steps ≡ []
   pub resets : e.resets ≡ []
   pub forms : All (λ a. IsTrue (is_served_form (out-Form a.form))) (inside e.right)
 

@@ -1,4 +1,4 @@
--- The programs that will be run by compiled nodes first: nodes of plain equations over constants, variables, operators, `if`, `fby`, `pre` and `->`, and of plain types.
+-- The programs that are run so far: nodes of plain equations over constants, variables, operators, `if`, memory operators, `when` and merges, and of plain types.
 use Rattle.std.specs.Prelude.{◌≡◌, Bool, true, false, IsTrue, [], ◌∷◌, None, All}
 use Rattle.hept_ast.specs.Parts.{expressions, variables}
 use Rattle.hept_ast.specs.Types as types
@@ -15,7 +15,7 @@ use Rattle.hept_ast.specs.declared.tree.MergeBranch.{MergeBranch}
 use Rattle.hept_ast.specs.declared.tree.Form.{Form, out-Form}
 use Rattle.hept_ast.specs.declared.tree.Form.TheOpen.{Form-F}
 
--- a constant, a variable, an operator, `if`, `fby`, `pre` or `->`
+-- a constant, a variable, an operator, `if`, `fby`, `pre`, `->`, `when` or a merge
 abbrev pub is_served_form : Form-F Form Expr MergeBranch → Bool
 is_served_form (Form-F.Const k) = true
 is_served_form (Form-F.Var x) = true
@@ -25,6 +25,8 @@ is_served_form (Form-F.If c a b) = true
 is_served_form (Form-F.Fby a b) = true
 is_served_form (Form-F.Pre a) = true
 is_served_form (Form-F.Arrow a b) = true
+is_served_form (Form-F.When a tag x) = true
+is_served_form (Form-F.Merge x branches) = true
 is_served_form _ = false
 
 -- a plain equation that defines one variable

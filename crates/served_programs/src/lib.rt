@@ -1,4 +1,4 @@
-//! Whether a program is one that will be run by compiled nodes first.
+//! Whether a program is one that is run so far.
 #![tactic(auto)]
 
 mod served;

@@ -1,4 +1,4 @@
-//! Whether a program is one that will be run by compiled nodes first.
+//! Whether a program is one that is run so far.
 ghost use Rattle.std.specs.Prelude.{◌≡◌, ◌↔◌, All, IfOk, IsTrue};
 ghost use Rattle.hept_ast.specs.Parts.{expressions, variables};
 ghost use Rattle.hept_ast.specs.declared.tree.Equation.{out-Equation};
@@ -28,6 +28,8 @@ fn has_served_form(expr: &Expr) -> bool
             | Form::Fby(..)
             | Form::Pre(..)
             | Form::Arrow(..)
+            | Form::When(..)
+            | Form::Merge(..)
     )
 }
 
@@ -104,7 +106,7 @@ fn is_served_node(alloc: Global, node: &Node) -> Result<bool, Memory>
 }
 
 /// Whether each node of a program has only plain equations of one variable each, over constants,
-/// variables, operators, `if`, `fby`, `pre` and `->`, and only variables of plain types.
+/// variables, operators, `if`, memory operators, `when` and merges, and only variables of plain types.
 pub fn is_served(alloc: Global, program: &Program) -> Result<bool, Memory>
     ensures { IfOk result (λ b. IsTrue b ↔ IsServed program.now) }
 {
