@@ -1,5 +1,5 @@
 -- The passes one after another keep the outputs.
-use Rattle.std.proofs.Common.{◌≡◌, ◌↔◌, ℕ, zero, suc, List, map, Some, slice_get, refl, ap, subst, ◌∙◌}
+use Rattle.std.proofs.Common.{◌≡◌, ◌↔◌, ℕ, zero, suc, List, map, Some, slice_get, refl, sym, ap, subst, ◌∙◌}
 use Rattle.hept_ast.specs.Reordering.{Reordering}
 use Rattle.hept_ast.specs.Settings.{no_replies}
 use Rattle.hept_ast.specs.Stages.{ClockedProgram, IsAcceptedProgram}
@@ -10,6 +10,7 @@ use Rattle.hept_ast.specs.declared.tree.Core.{Core}
 use Rattle.hept_ast.specs.declared.tree.CoreNode.{CoreNode}
 use Rattle.hept_ast.specs.declared.tree.Node.{Node}
 use Rattle.accepted_meaning.specs.Ranges.{IsInRange}
+use Rattle.accepted_meaning.proofs.StaticNodes.{accepted_is_sound}
 use Rattle.flat_cores.specs.Flat.{IsFlatCore}
 use Rattle.flat_cores.proofs.LoweredFlat.{lowering_is_flat}
 use Rattle.flat_cores.proofs.NamedFlat.{naming_keeps_flat}
@@ -24,7 +25,9 @@ use Rattle.naming_rules.specs.Normalised as normalised
 use Rattle.schedule.specs.Kept.{KeepsMeaning}
 use Rattle.sound_lowering.proofs.StaticLowered.{lowering_is_static}
 use Rattle.sound_lowering.proofs.WellLowered.{lowering_is_well_formed}
+use Rattle.sound_expressions.specs.Demands.{NamesDiffer}
 use Rattle.core_making.specs.Made.{LowersWell, MeansNode, MeansProgram}
+use Rattle.core_making.proofs.Names.{lowered_names}
 
 -- ---- nodes at one position
 
@@ -66,7 +69,9 @@ lowers_well c core range accepted h = record {
   well_formed = lowering_is_well_formed c core range accepted h;
   acyclic = lowering_makes_no_cycle c core range accepted h;
   static_facts = lowering_is_static c core range accepted h;
-  flat = λ served. lowering_is_flat c core accepted served h;
+  flat = λ served. lowering_is_flat c core served h;
+  types = h.types;
+  names = subst NamesDiffer (sym (lowered_names h.nodes)) (accepted_is_sound c range accepted).nodes;
 }
 
 normal_means : (c : ClockedProgram) (core other : Core) → MeansProgram c core → IsNormalised core other → MeansProgram c other

@@ -3,6 +3,7 @@ use Rattle.std.specs.Prelude.{◌≡◌, ◌↔◌, ℕ, List, map, Some, slice_
 use Rattle.hept_ast.specs.Scopes.{Written, Lowered}
 use Rattle.hept_ast.specs.Settings.{Marks, of_core, of_program, no_replies}
 use Rattle.hept_ast.specs.Outputs.{Outputs}
+use Rattle.hept_ast.specs.Texts.{Name}
 use Rattle.hept_ast.specs.Stages.{ClockedProgram}
 use Rattle.hept_ast.specs.ClockMaps.{clock_in}
 use Rattle.hept_ast.specs.declared.tree.Core.{Core}
@@ -14,6 +15,10 @@ use Rattle.core_rules.specs.WellFormed.{IsWellFormed}
 use Rattle.flat_cores.specs.Flat.{IsFlatCore}
 use Rattle.lowering_rules.specs.Lowering.{without_initial}
 use Rattle.served_programs.specs.Served.{IsServed}
+use Rattle.sound_expressions.specs.Demands.{NamesDiffer}
+
+abbrev pub names_of_nodes : List CoreNode → List Name
+names_of_nodes nodes = map (λ node. node.name) nodes
 
 -- a node has a node of the core at its position, with the same declarations of inputs and outputs, and with the same outputs on all rows,
 -- under any marks and without replies
@@ -35,3 +40,5 @@ pub record LowersWell (c : ClockedProgram) (core : Core) : Type 0 where
   pub acyclic : HasNoCoreCycle core
   pub static_facts : StaticCore core
   pub flat : IsServed c.program → IsFlatCore core
+  pub types : core.types ≡ c.program.types
+  pub names : NamesDiffer (names_of_nodes core.nodes)

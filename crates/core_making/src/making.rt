@@ -1,10 +1,11 @@
-ghost use Rattle.std.specs.Prelude.{IfOk};
+ghost use Rattle.std.specs.Prelude.{◌≡◌, IfOk};
 ghost use Rattle.hept_ast.specs.Stages.{IsAcceptedProgram};
 ghost use Rattle.accepted_meaning.specs.Ranges.{IsInRange};
-ghost use Rattle.core_making.specs.Made.{LowersWell, MeansProgram};
+ghost use Rattle.core_making.specs.Made.{LowersWell, MeansProgram, names_of_nodes};
 ghost use Rattle.flat_cores.specs.Flat.{IsFlatCore};
 ghost use Rattle.lowering_rules.specs.PlainPrograms.{IsPlainProgram};
 ghost use Rattle.served_programs.specs.Served.{IsServed};
+ghost use Rattle.sound_expressions.specs.Demands.{NamesDiffer};
 
 use hept_ast::{Accepted, Core, Memory};
 use normal_form::normalise;
@@ -35,6 +36,8 @@ pub fn make_core(alloc: Global, accepted: &Accepted) -> Result<Ordered, Memory>
     requires range { IsInRange accepted.now.program }
     ensures means { IfOk result (λ made. MeansProgram accepted.now made) }
     ensures flat { IsServed accepted.now.program → IfOk result IsFlatCore }
+    ensures types { IfOk result (λ made. made.types ≡ accepted.now.program.types) }
+    ensures names { IfOk result (λ made. NamesDiffer (names_of_nodes made.nodes)) }
 {
     let core = lowered(alloc, accepted)?;
     let normal = normalise(alloc, core)?;
