@@ -6,8 +6,8 @@ use Rattle.hept_ast.specs.declared.tree.Expr.{Expr}
 use Rattle.hept_ast.specs.declared.tree.MergeBranch.{MergeBranch}
 use Rattle.hept_ast.specs.declared.tree.Form.{Form, out-Form}
 use Rattle.hept_ast.specs.declared.tree.Form.TheOpen.{Form-F}
-use Rattle.plan_building.specs.Grounds.{fby_memories, right_memories}
-use Rattle.plan_building.specs.Rights.{right_cells, start_cells}
+use Rattle.plan_equations.specs.Grounds.{fby_memories, right_memories}
+use Rattle.plan_equations.specs.Rights.{right_cells, start_cells}
 
 -- a memory for each of its cells
 start_memories : (types : List TypeDec) (v : Form-F Form Expr MergeBranch) (b : Expr) (c : Clock) (s : Scope) → length (fby_memories types v b c s) ≡ start_cells v

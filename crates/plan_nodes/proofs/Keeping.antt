@@ -25,7 +25,7 @@ at_last : {A : Type 0} (xs : List A) (y : A) → slice_get (xs ++ y ∷ []) (len
 at_last [] y = refl
 at_last (x ∷ xs) y = at_last xs y
 
-last_or_before : {A : Type 0} (xs : List A) (y z : A) (k : ℕ) → slice_get (xs ++ y ∷ []) k ≡ Some z → (slice_get xs k ≡ Some z) ⊎ ((k ≡ length xs) × (z ≡ y))
+pub last_or_before : {A : Type 0} (xs : List A) (y z : A) (k : ℕ) → slice_get (xs ++ y ∷ []) k ≡ Some z → (slice_get xs k ≡ Some z) ⊎ ((k ≡ length xs) × (z ≡ y))
 last_or_before [] y z zero h = inr (refl, (cc))
 last_or_before [] y z (suc k) h = absurd (cc)
 last_or_before (x ∷ xs) y z zero h = inl h

@@ -21,10 +21,10 @@ use Rattle.step_plans.specs.declared.plan.NodePlan.{NodePlan}
 use Rattle.step_engine.specs.Running.{IsStoreWithin}
 use Rattle.step_engine.specs.Actions.{IsActionWithin, IsFutureStoreWithin}
 use Rattle.node_memory.specs.Standing.{IsCallWithin, IsSound}
-use Rattle.plan_building.specs.Building.{AreActionsWithin, HaveRegisters}
-use Rattle.plan_building.specs.declared.draft.Draft.{Draft}
-use Rattle.plan_building.specs.Grounds.{ground_of, memories_of}
-use Rattle.plan_building.proofs.PlacesOf.{named_at, within_names}
+use Rattle.plan_expressions.specs.Building.{AreActionsWithin, HaveRegisters}
+use Rattle.plan_expressions.specs.declared.draft.Draft.{Draft}
+use Rattle.plan_equations.specs.Grounds.{ground_of, memories_of}
+use Rattle.plan_expressions.proofs.PlacesOf.{named_at, within_names}
 use Rattle.plan_nodes.specs.Nodes.{IsBuildable, variables_of}
 use Rattle.plan_nodes.specs.Built.{BuildsStores, BuildsValues, KeepsStores, KeepsValues}
 use Rattle.plan_nodes.specs.Bodies.{BuildsBody, IsBodyWithin, KnowsContents}
@@ -73,11 +73,11 @@ is_plan types core node b plan same buildable builds contents made =
     let kept = builds core same in
     let of_types : memories_of core.types node node.equations ≡ memories_of types node node.equations = ap (λ (ts : List TypeDec). memories_of ts node node.equations) same in
     record {
-      last = kept.built.here;
+      last = kept.placed.built.here;
       inputs = made.inputs;
       places = buildable.places;
-      makes = subst (λ (offerings : List Offering). MakesAll (ground_of core node) [] offerings (start_of node 0) plan.actions.items kept.built.here) (sym made.offerings)
-          (subst (λ (actions : List Action). MakesAll (ground_of core node) [] [] (start_of node 0) actions kept.built.here) (sym made.actions) kept.built.leads.makes);
+      makes = subst (λ (offerings : List Offering). MakesAll (ground_of core node) [] offerings (start_of node 0) plan.actions.items kept.placed.built.here) (sym made.offerings)
+          (subst (λ (actions : List Action). MakesAll (ground_of core node) [] [] (start_of node 0) actions kept.placed.built.here) (sym made.actions) kept.placed.built.leads.makes);
       each = λ k site e. absurd (nothing_at k site e);
       keeps = λ k m e.
           let h = kept.stores.keeps k m (ap (λ (ms : List Memory). slice_get ms k) (sym of_types) ∙ e) in
@@ -90,7 +90,7 @@ is_plan types core node b plan same buildable builds contents made =
       counted = λ k call e. absurd (nothing_at k call e);
       as_many = ap length made.outputs ∙ length-map node.outputs _;
       outputs = λ k x e.
-          let h = output_value kept.built.here.entries node (variables_of node) b.registers.items b.draft.at k x kept.built.values buildable.outputs e in
+          let h = output_value kept.placed.built.here.entries node (variables_of node) b.registers.items b.draft.at k x kept.placed.built.values buildable.outputs e in
           (h.0, ap (λ (rs : List ℕ). slice_get rs k) made.outputs ∙ h.1, h.2);
     }
 
@@ -143,14 +143,14 @@ is_sound types node b plan buildable many within made =
 -- ---- the body
 
 pub body_built : (types : List TypeDec) (node : CoreNode) (first : List ℕ) (start values : Draft) (b : Body) → AreInputRegisters (length node.inputs) first → start.actions.items ≡ [] → start.at ≡ suc (length node.inputs) →
-    BuildsValues types node first start b.registers.items values → BuildsStores types node (variables_of node) b.registers.items values b.draft b.cells.stores.items → BuildsBody types node b
-body_built types node first start values b are none at builds_values builds_stores core same =
+    IsBuildable types node → BuildsValues types node first start b.registers.items values b.presences.items → BuildsStores types node (variables_of node) b.registers.items b.presences.items values b.draft b.cells.stores.items → BuildsBody types node b
+body_built types node first start values b are none at buildable builds_values builds_stores core same =
     let g : Ground = ground_of core node in
     let of_types : memories_of core.types node node.equations ≡ memories_of types node node.equations = ap (λ (ts : List TypeDec). memories_of ts node node.equations) same in
-    builds_stores g (start_of node 0) same (builds_values g (start_of node 0) same of_types (built_at_start g node first start are none at))
+    builds_stores g (start_of node 0) same (builds_values g (start_of node 0) same of_types (buildable.grounded core same) (omega (arith, at)) (built_at_start g node first start are none at))
 
 pub body_within : (types : List TypeDec) (node : CoreNode) (first : List ℕ) (start values : Draft) (b : Body) → length first ≡ length node.inputs → AreInputRegisters (length node.inputs) first → start.actions.items ≡ [] → start.at ≡ suc (length node.inputs) →
-    KeepsValues (length (memories_of types node node.equations)) first start b.registers.items values → KeepsStores b.registers.items values b.draft b.cells.stores.items → BuildsBody types node b →
+    KeepsValues (length (memories_of types node node.equations)) first start b.registers.items values b.presences.items → KeepsStores b.registers.items b.presences.items values b.draft b.cells.stores.items → BuildsBody types node b →
     KnowsContents types node b → IsBodyWithin (length node.inputs) b
 body_within types node first start values b many are none at keeps_values keeps_stores builds contents =
     let core : Core = record { types = types; nodes = [] } in
@@ -158,9 +158,8 @@ body_within types node first start values b many are none at keeps_values keeps_
     let as_many : length b.cells.stores.items ≡ length (memories_of types node node.equations) = kept.stores.as_many in
     let below : All (λ q. q < start.at) first = first_below first (length node.inputs) start.at many are at in
     let nothing : AreActionsWithin (length (memories_of types node node.equations)) start = subst (λ (actions : List Action). All (IsActionWithin start.at (length (memories_of types node node.equations)) 0 0) actions) (sym none) (All-nil _) in
-    let v = keeps_values below nothing in
-    let positive : 0 < values.at = omega (arith, v.1, at) in
-    let s = keeps_stores (length (memories_of types node node.equations)) positive v.2 v.0 in
+    let v = keeps_values (omega (arith, at)) below nothing in
+    let s = keeps_stores (length (memories_of types node node.equations)) v.2 v.3 v.0 in
     record {
       room = omega (arith, at, v.1, s.1);
       initial = ap length contents ∙ length-map (memories_of types node node.equations) initial_of ∙ sym as_many;

@@ -11,10 +11,10 @@ use Rattle.step_plans.specs.Things.{Here, Named}
 use Rattle.step_plans.specs.Operations.{In_values}
 use Rattle.step_plans.specs.Plans.{Ground, Entry, At, Has, newest, older, known, here_under, variable_under, MakesAll, made, also, Progress, inputs_at, start_of, top_of}
 use Rattle.step_plans.specs.declared.action.Action.{Action}
-use Rattle.plan_building.specs.Building.{HaveRegisters, KnowsMore}
-use Rattle.plan_building.specs.Equations.{IsBuilt, inside}
-use Rattle.plan_building.specs.declared.draft.Draft.{Draft}
-use Rattle.plan_building.proofs.Emitting.{knows_on, knows_same}
+use Rattle.plan_expressions.specs.Building.{HaveRegisters, KnowsMore}
+use Rattle.plan_equations.specs.Equations.{IsBuilt, inside_of}
+use Rattle.plan_expressions.specs.declared.draft.Draft.{Draft}
+use Rattle.plan_expressions.proofs.Adding.{knows_on, knows_same}
 
 -- an input's value
 input_has : (s : Scope) (xs : List Name) (at later k : ℕ) (x : Name) → slice_get xs k ≡ Some x → Has (inputs_at s xs at later) (Named x s) (In_values (at + k))
@@ -38,7 +38,7 @@ record AreSeen (g : Ground) (node : CoreNode) (p : Progress) (xs : List Name) (f
   makes : MakesAll g [] [] p [] after
   at : after.at ≡ p.at
   more : KnowsMore p after
-  seen : Stand after.entries (inside node) xs from p.at
+  seen : Stand after.entries (inside_of node) xs from p.at
 
 stand_next : (entries : List Entry) (s : Scope) (y : Name) (xs : List Name) (from at : ℕ) → Stand entries s (y ∷ xs) from at → Stand entries s xs (suc from) at
 stand_next entries s y xs from at h k x e =
@@ -61,15 +61,15 @@ see_names g node p (y ∷ xs) from h =
     let here : from + 0 ≡ from = omega arith in
     let lt : from < p.at = omega (arith, first.1) in
     let named : Has p.entries (Named y (top_of node)) (In_values from) = subst (λ (r : ℕ). Has p.entries (Named y (top_of node)) (In_values r)) here first.0 in
-    let q : Progress = record { entries = At (Named y (inside node)) (In_values from) ∷ p.entries; at = p.at; later = p.later; offered = p.offered } in
+    let q : Progress = record { entries = At (Named y (inside_of node)) (In_values from) ∷ p.entries; at = p.at; later = p.later; offered = p.offered } in
     let more : KnowsMore p q = record { later = refl; grows = λ thing r x. older x } in
     let rest : AreSeen g node q xs (suc from) = see_names g node q xs (suc from) (stand_next q.entries (top_of node) y xs from q.at (λ k x e. (older (h k x e).0, (h k x e).1))) in
     record {
       after = rest.after;
-      makes = also (known (Named y (inside node)) (In_values from) lt (variable_under y (top_of node) [] named)) rest.makes;
+      makes = also (known (Named y (inside_of node)) (In_values from) lt (variable_under y (top_of node) [] named)) rest.makes;
       at = rest.at;
       more = knows_on p q rest.after more rest.more;
-      seen = stand_more rest.after.entries (inside node) y xs from p.at (rest.more.grows _ _ newest) lt rest.seen;
+      seen = stand_more rest.after.entries (inside_of node) y xs from p.at (rest.more.grows _ _ newest) lt rest.seen;
     }
 
 -- the inputs' values have these numbers
@@ -90,7 +90,7 @@ built_at_start g node registers draft are none at =
     let stand : Stand p.entries (top_of node) (names node.inputs) 1 p.at = λ k x e.
     let within : k < length (names node.inputs) = slice_get_within (names node.inputs) k x e in
     (older (input_has (top_of node) (names node.inputs) 1 0 k x e), omega (arith, within, many)) in
-    let q : Progress = record { entries = At (Here [] (inside node)) (In_values 0) ∷ p.entries; at = p.at; later = p.later; offered = p.offered } in
+    let q : Progress = record { entries = At (Here [] (inside_of node)) (In_values 0) ∷ p.entries; at = p.at; later = p.later; offered = p.offered } in
     let positive : 0 < p.at = omega arith in
     let more : KnowsMore p q = record { later = refl; grows = λ thing r x. older x } in
     let rest : AreSeen g node q (names node.inputs) 1 = see_names g node q (names node.inputs) 1 (λ k x e. (older (stand k x e).0, (stand k x e).1)) in
@@ -99,12 +99,12 @@ built_at_start g node registers draft are none at =
     record {
       here = rest.after;
       leads = record {
-        makes = subst (λ (actions : List Action). MakesAll g [] [] p actions rest.after) (sym none) (also (known (Here [] (inside node)) (In_values 0) positive (here_under [] (top_of node) [] newest)) rest.makes);
+        makes = subst (λ (actions : List Action). MakesAll g [] [] p actions rest.after) (sym none) (also (known (Here [] (inside_of node)) (In_values 0) positive (here_under [] (top_of node) [] newest)) rest.makes);
         at = rest.at ∙ sym same;
       };
       base = all.grows _ _ newest;
       right = rest.more.grows _ _ newest;
       values = have_registers rest.after.entries (top_of node) (names node.inputs) registers draft.at numbers
           (λ k x e. (all.grows _ _ (stand k x e).0, omega (arith, (stand k x e).1, same)));
-      read = have_registers rest.after.entries (inside node) (names node.inputs) registers draft.at numbers (λ k x e. ((rest.seen k x e).0, omega (arith, (rest.seen k x e).1, same)));
+      read = have_registers rest.after.entries (inside_of node) (names node.inputs) registers draft.at numbers (λ k x e. ((rest.seen k x e).0, omega (arith, (rest.seen k x e).1, same)));
     }

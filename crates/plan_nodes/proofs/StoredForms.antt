@@ -1,5 +1,5 @@
 -- The cells of each form of a right side.
-use Rattle.std.proofs.Common.{◌≡◌, List, [], ◌∷◌, sym, subst, ap, ◌∙◌}
+use Rattle.std.proofs.Common.{◌≡◌, ℕ, List, [], ◌∷◌, sym, subst, ap, ◌∙◌}
 use Rattle.hept_ast.specs.Texts.{Name, const_value}
 use Rattle.hept_ast.specs.Scopes.{Clock, Scope, Under}
 use Rattle.hept_ast.specs.declared.tree.TypeDec.{TypeDec}
@@ -13,37 +13,41 @@ use Rattle.hept_ast.specs.declared.tree.Form.TheVariants as form
 use Rattle.step_plans.specs.Things.{Value_of, Presence_of}
 use Rattle.step_plans.specs.Plans.{top_of}
 use Rattle.step_plans.proofs.FormsOut.{const_form, var_form, unary_form, binary_form, if_form, fby_form}
-use Rattle.plan_building.specs.Buildable.{Computable, constant, variable, unary, binary, divided, conditional}
-use Rattle.plan_building.specs.Rights.{IsRight, expression, from_constant, from_variable, previous, arrow}
-use Rattle.plan_building.specs.Equations.{IsFound, inside}
-use Rattle.plan_building.specs.Grounds.{equation_memories, fby_memories, right_memories}
-use Rattle.plan_building.proofs.FormsMore.{pre_form, arrow_form}
-use Rattle.plan_building.proofs.RightOperands.{plain_right}
+use Rattle.plan_expressions.specs.Computable.{Computable, constant, variable, unary, binary, divided, conditional, sampled, merged}
+use Rattle.plan_expressions.proofs.FormsMore.{when_form, merge_form}
+use Rattle.plan_expressions.proofs.Operands.{some_form}
+use Rattle.plan_equations.specs.Rights.{IsRight, expression, from_constant, from_variable, previous, arrow}
+use Rattle.plan_equations.specs.Equations.{IsFound, inside_of}
+use Rattle.plan_equations.specs.Grounds.{equation_memories, fby_memories, right_memories}
+use Rattle.plan_equations.proofs.FormsMore.{pre_form, arrow_form}
+use Rattle.plan_equations.proofs.RightOperands.{plain_right}
 use Rattle.plan_nodes.specs.Nodes.{IsKeepable, KeepsComputable}
 use Rattle.plan_nodes.specs.Stores.{IsStart, constant_start, variable_start}
 
 -- ---- how a `fby` starts
 
-no_computable_fby : (types : List TypeDec) (ks : List Name) (e a b : Expr) → e.form ≡ form.Fby a b → Computable types ks e → ⊥
-no_computable_fby types ks e a b is (constant k g) = let q : Form-F.Fby a b ≡ Form-F.Const k = sym (fby_form e a b is) ∙ const_form e k g in cc
-no_computable_fby types ks e a b is (variable x g among) = let q : Form-F.Fby a b ≡ Form-F.Var x = sym (fby_form e a b is) ∙ var_form e x g in cc
-no_computable_fby types ks e a b is (unary op d g h) = let q : Form-F.Fby a b ≡ Form-F.Unary op d = sym (fby_form e a b is) ∙ unary_form e op d g in cc
-no_computable_fby types ks e a b is (binary op d f g n h i) = let q : Form-F.Fby a b ≡ Form-F.Binary op d f = sym (fby_form e a b is) ∙ binary_form e op d f g in cc
-no_computable_fby types ks e a b is (divided op d f g n h i) = let q : Form-F.Fby a b ≡ Form-F.Binary op d f = sym (fby_form e a b is) ∙ binary_form e op d f g in cc
-no_computable_fby types ks e a b is (conditional c d f g h i j) = let q : Form-F.Fby a b ≡ Form-F.If c d f = sym (fby_form e a b is) ∙ if_form e c d f g in cc
+no_fby : (types : List TypeDec) (ks : List Name) (n : ℕ) (e a b : Expr) → e.form ≡ form.Fby a b → Computable types ks n e → ⊥
+no_fby types ks n e a b is h = some_form types ks n e h
+    (λ k g. let q : Form-F.Fby a b ≡ Form-F.Const k = sym (fby_form e a b is) ∙ const_form e k g in cc)
+    (λ x g. let q : Form-F.Fby a b ≡ Form-F.Var x = sym (fby_form e a b is) ∙ var_form e x g in cc)
+    (λ op d g. let q : Form-F.Fby a b ≡ Form-F.Unary op d = sym (fby_form e a b is) ∙ unary_form e op d g in cc)
+    (λ op d f g. let q : Form-F.Fby a b ≡ Form-F.Binary op d f = sym (fby_form e a b is) ∙ binary_form e op d f g in cc)
+    (λ c d f g. let q : Form-F.Fby a b ≡ Form-F.If c d f = sym (fby_form e a b is) ∙ if_form e c d f g in cc)
+    (λ d tag x g. let q : Form-F.Fby a b ≡ Form-F.When d tag x = sym (fby_form e a b is) ∙ when_form e d tag x g in cc)
+    (λ x branches g. let q : Form-F.Fby a b ≡ Form-F.Merge x branches = sym (fby_form e a b is) ∙ merge_form e x branches g in cc)
 
-pub start_of_right : (types : List TypeDec) (ks : List Name) (e a b : Expr) → e.form ≡ form.Fby a b → IsRight types ks e → IsStart a
-start_of_right types ks e a b is (expression h) = absurd (no_computable_fby types ks e a b is h)
-start_of_right types ks e a b is (from_constant f g k is_fby const) =
+pub start_of_right : (types : List TypeDec) (ks : List Name) (n : ℕ) (e a b : Expr) → e.form ≡ form.Fby a b → IsRight types ks n e → IsStart a
+start_of_right types ks n e a b is (expression h) = absurd (no_fby types ks n e a b is h)
+start_of_right types ks n e a b is (from_constant f g k is_fby const) =
     let q : Form-F.Fby a b ≡ Form-F.Fby f g = sym (fby_form e a b is) ∙ fby_form e f g is_fby in
     let here : f ≡ a = cc in
     subst (λ (z : Expr). IsStart z) here (constant_start k const)
-start_of_right types ks e a b is (from_variable f g y is_fby named among) =
+start_of_right types ks n e a b is (from_variable f g y is_fby named among) =
     let q : Form-F.Fby a b ≡ Form-F.Fby f g = sym (fby_form e a b is) ∙ fby_form e f g is_fby in
     let here : f ≡ a = cc in
     subst (λ (z : Expr). IsStart z) here (variable_start y named)
-start_of_right types ks e a b is (previous f g) = absurd (let q : Form-F.Fby a b ≡ Form-F.Pre f = sym (fby_form e a b is) ∙ pre_form e f g in cc)
-start_of_right types ks e a b is (arrow f g is_arrow h i) = absurd (let q : Form-F.Fby a b ≡ Form-F.Arrow f g = sym (fby_form e a b is) ∙ arrow_form e f g is_arrow in cc)
+start_of_right types ks n e a b is (previous f g) = absurd (let q : Form-F.Fby a b ≡ Form-F.Pre f = sym (fby_form e a b is) ∙ pre_form e f g in cc)
+start_of_right types ks n e a b is (arrow f g is_arrow h i) = absurd (let q : Form-F.Fby a b ≡ Form-F.Arrow f g = sym (fby_form e a b is) ∙ arrow_form e f g is_arrow in cc)
 
 pub memory_constant : (types : List TypeDec) (a b : Expr) (k : Const) (c : Clock) (s : Scope) → a.form ≡ form.Const k → fby_memories types (out-Form a.form) b c s ≡ Value_of b c s (const_value types k) ∷ []
 memory_constant types a b k c s is = ap (λ (f : _). fby_memories types f b c s) (const_form a k is)
@@ -54,13 +58,13 @@ memories_started types a b c s (variable_start x is) other = ap (λ (f : _). fby
 
 -- ---- what is kept
 
-pub kept_later : (types : List TypeDec) (variables : List Name) (e a b d : Expr) → e.form ≡ form.Fby a b → d ≡ b → IsKeepable types variables e → Computable types variables d
+pub kept_later : (types : List TypeDec) (variables : List Name) (e a b d : Expr) → e.form ≡ form.Fby a b → d ≡ b → IsKeepable types variables e → Computable types variables 0 d
 kept_later types variables e a b d is same h =
-    subst (λ (z : Expr). Computable types variables z) (sym same) (subst (λ (f : _). KeepsComputable types variables f) (fby_form e a b is) h)
+    subst (λ (z : Expr). Computable types variables 0 z) (sym same) (subst (λ (f : _). KeepsComputable types variables f) (fby_form e a b is) h)
 
-pub kept_previous : (types : List TypeDec) (variables : List Name) (e a d : Expr) → e.form ≡ form.Pre a → d ≡ a → IsKeepable types variables e → Computable types variables d
+pub kept_previous : (types : List TypeDec) (variables : List Name) (e a d : Expr) → e.form ≡ form.Pre a → d ≡ a → IsKeepable types variables e → Computable types variables 0 d
 kept_previous types variables e a d is same h =
-    subst (λ (z : Expr). Computable types variables z) (sym same) (subst (λ (f : _). KeepsComputable types variables f) (pre_form e a is) h)
+    subst (λ (z : Expr). Computable types variables 0 z) (sym same) (subst (λ (f : _). KeepsComputable types variables f) (pre_form e a is) h)
 
 -- ---- the cells of an equation
 
@@ -73,20 +77,20 @@ memories_previous types e a c s is = ap (λ (f : _). right_memories types f c s)
 pub memories_arrow : (types : List TypeDec) (e a b : Expr) (c : Clock) (s : Scope) → e.form ≡ form.Arrow a b → right_memories types (out-Form e.form) c s ≡ Presence_of c s ∷ []
 memories_arrow types e a b c s is = ap (λ (f : _). right_memories types f c s) (arrow_form e a b is)
 
-no_memories : (types : List TypeDec) (ks : List Name) (e : Expr) (c : Clock) (s : Scope) → Computable types ks e → right_memories types (out-Form e.form) c s ≡ []
-no_memories types ks e c s (constant k g) = ap (λ (f : _). right_memories types f c s) (const_form e k g)
-no_memories types ks e c s (variable x g among) = ap (λ (f : _). right_memories types f c s) (var_form e x g)
-no_memories types ks e c s (unary op d g h) = ap (λ (f : _). right_memories types f c s) (unary_form e op d g)
-no_memories types ks e c s (binary op d f g n h i) = ap (λ (f : _). right_memories types f c s) (binary_form e op d f g)
-no_memories types ks e c s (divided op d f g n h i) = ap (λ (f : _). right_memories types f c s) (binary_form e op d f g)
-no_memories types ks e c s (conditional k d f g h i j) = ap (λ (f : _). right_memories types f c s) (if_form e k d f g)
+no_memories : (types : List TypeDec) (ks : List Name) (n : ℕ) (e : Expr) (c : Clock) (s : Scope) → Computable types ks n e → right_memories types (out-Form e.form) c s ≡ []
+no_memories types ks n e c s (constant k g) = ap (λ (f : _). right_memories types f c s) (const_form e k g)
+no_memories types ks n e c s (variable x g among) = ap (λ (f : _). right_memories types f c s) (var_form e x g)
+no_memories types ks n e c s (unary op d g h) = ap (λ (f : _). right_memories types f c s) (unary_form e op d g)
+no_memories types ks n e c s (binary op d f g other h i) = ap (λ (f : _). right_memories types f c s) (binary_form e op d f g)
+no_memories types ks n e c s (divided op d f g divides h i) = ap (λ (f : _). right_memories types f c s) (binary_form e op d f g)
+no_memories types ks n e c s (conditional k d f g h i j) = ap (λ (f : _). right_memories types f c s) (if_form e k d f g)
+no_memories types ks n e c s (sampled d tag x g lt h) = ap (λ (f : _). right_memories types f c s) (when_form e d tag x g)
+no_memories types ks n e c s (merged x branches g lt among h) = ap (λ (f : _). right_memories types f c s) (merge_form e x branches g)
 
-pub memories_plain : (types : List TypeDec) (ks : List Name) (e : Expr) (c : Clock) (s : Scope) → ((a b : Expr) → e.form ≡ form.Fby a b → ⊥) → ((a : Expr) → e.form ≡ form.Pre a → ⊥) → ((a b : Expr) → e.form ≡ form.Arrow a b → ⊥) → IsRight types ks e →
+pub memories_plain : (types : List TypeDec) (ks : List Name) (n : ℕ) (e : Expr) (c : Clock) (s : Scope) → ((a b : Expr) → e.form ≡ form.Fby a b → ⊥) → ((a : Expr) → e.form ≡ form.Pre a → ⊥) → ((a b : Expr) → e.form ≡ form.Arrow a b → ⊥) → IsRight types ks n e →
     right_memories types (out-Form e.form) c s ≡ []
-memories_plain types ks e c s no_start no_pre none right = no_memories types ks e c s (plain_right types ks e no_start no_pre none right)
+memories_plain types ks n e c s no_start no_pre none right = no_memories types ks n e c s (plain_right types ks n e no_start no_pre none right)
 
--- an equation without resets on the base clock
-pub memories_inside : (types : List TypeDec) (node : CoreNode) (e : CoreEquation) (x : Name) → IsFound node e x → equation_memories types node e ≡ right_memories types (out-Form e.right.form) [] (inside node)
-memories_inside types node e x f =
-    ap (λ (c : Clock). right_memories types (out-Form e.right.form) c (Under (top_of node) e.resets)) f.clock
-    ∙ ap (λ (xs : List Name). right_memories types (out-Form e.right.form) [] (Under (top_of node) xs)) f.resets
+-- an equation without resets
+pub memories_inside : (types : List TypeDec) (node : CoreNode) (e : CoreEquation) (x : Name) → IsFound node e x → equation_memories types node e ≡ right_memories types (out-Form e.right.form) e.clock.steps (inside_of node)
+memories_inside types node e x f = ap (λ (xs : List Name). right_memories types (out-Form e.right.form) e.clock.steps (Under (top_of node) xs)) f.resets

@@ -1,4 +1,4 @@
 pub mod Nodes
 pub mod Built
-pub mod Bodies
 pub mod Stores
+pub mod Bodies

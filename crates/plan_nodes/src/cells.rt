@@ -1,7 +1,7 @@
 //! How many cells a right side has.
 ghost use Rattle.std.specs.Prelude.{◌≡◌, ◌≤◌};
 ghost use Rattle.hept_ast.specs.declared.tree.Form.{out-Form};
-ghost use Rattle.plan_building.specs.Rights.{right_cells};
+ghost use Rattle.plan_equations.specs.Rights.{right_cells};
 
 use hept_ast::{Expr, Form};
 

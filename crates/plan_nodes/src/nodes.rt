@@ -2,7 +2,7 @@
 ghost use Rattle.std.specs.Prelude.{◌≡◌, ◌<◌, ◌+◌, ◌^◌, [], IfOk, length};
 ghost use Rattle.hept_ast.specs.declared.tree.Core.{Core};
 ghost use Rattle.step_plans.specs.Plans.{IsPlanOf};
-ghost use Rattle.plan_building.specs.Grounds.{ground_of};
+ghost use Rattle.plan_equations.specs.Grounds.{ground_of};
 ghost use Rattle.node_memory.specs.Standing.{IsSound};
 ghost use Rattle.plan_nodes.specs.Nodes.{IsBuildable, variables_of};
 ghost use Rattle.plan_nodes.specs.Bodies.{BuildsBody, IsBodyWithin, KnowsContents};
@@ -12,7 +12,7 @@ use crate::registers::{input_registers, output_registers};
 use crate::stores::{Cells, add_stores};
 use crate::values::add_values;
 use hept_ast::{CoreNode, Memory, Name, TypeDec};
-use plan_building::Draft;
+use plan_expressions::Draft;
 use std::alloc::Global;
 use step_plans::NodePlan;
 
@@ -23,6 +23,8 @@ pub(crate) struct Body {
     pub(crate) cells: Cells,
     /// Of each variable the number of its value.
     pub(crate) registers: Vec<u32>,
+    /// Of each equation the presence of its clock.
+    pub(crate) presences: Vec<u32>,
 }
 
 fn build_body(
@@ -46,23 +48,25 @@ fn build_body(
         actions: Vec::new(alloc),
         at: inputs + 1,
     };
-    add_values(node, types, variables, &mut registers, &mut draft)?;
+    let presences = add_values(alloc, node, types, variables, &mut registers, &mut draft)?;
     let cells = add_stores(
         alloc,
         node,
         types,
         variables,
         registers.as_slice(),
+        presences.as_slice(),
         &mut draft,
     )?;
     Ok(Body {
         draft,
         cells,
         registers,
+        presences,
     })
 }
 
-/// The plan of a node of equations on the base clock, without resets, calls and merges. It fails only for
+/// The plan of a node of equations without resets and calls. It fails only for
 /// want of memory, which more than 2^32 - 1 values or cells are too.
 pub fn build_node(alloc: Global, types: &[TypeDec], node: &CoreNode) -> Result<NodePlan, Memory>
     requires { IsBuildable types.now node.now }
@@ -81,6 +85,7 @@ pub fn build_node(alloc: Global, types: &[TypeDec], node: &CoreNode) -> Result<N
         draft,
         cells,
         registers,
+        ..
     } = body;
     let outputs = output_registers(
         alloc,

@@ -3,7 +3,7 @@ ghost use Rattle.std.specs.Prelude.{◌≡◌, ◌<◌, ◌+◌, ◌^◌, ℕ, s
 ghost use Rattle.hept_ast.specs.Texts.{is_in, names, place_in};
 
 use hept_ast::{Decl, Memory, Name};
-use plan_building::position;
+use plan_expressions::position;
 use std::alloc::{AllocError, Global};
 
 /// The values of the inputs come after value 0.

@@ -1,6 +1,6 @@
 use Rattle.std.proofs.Common.{◌≡◌, ◌<◌, true, length, rules, arith}
 use Rattle.hept_ast.specs.Texts.{is_in, place_in}
-use Rattle.plan_building.proofs.PlacesOf.{within_names}
+use Rattle.plan_expressions.proofs.PlacesOf.{within_names}
 use Rattle.plan_nodes.proofs.Planned.{name_among}
 use Rattle.plan_nodes.proofs.registers.output_registers.Goals as goal
 
