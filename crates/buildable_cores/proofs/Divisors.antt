@@ -1,5 +1,5 @@
 -- A division of numbers without faults is by a constant other than 0.
-use Rattle.std.proofs.Common.{◌≡◌, ◌≢◌, zero, suc, ◌-◌, Bool, true, false, not, ◌&&◌, List, [], ◌∷◌, ◌⊎◌, inl, inr, refl, sym, ap, subst, ◌∙◌, arith, Some}
+use Rattle.std.proofs.Common.{◌≡◌, ◌≢◌, zero, suc, Bool, true, false, not, ◌&&◌, List, [], ◌∷◌, ◌⊎◌, inl, inr, refl, sym, ap, subst, ◌∙◌, arith, Some}
 use Rattle.std.specs.Prelude.{ℤ, pos, negsuc, FitsSigned, if◌then◌else◌}
 use Rattle.std.specs.Int.{w32}
 use Rattle.std.proofs.lemmas.Bool.{false≢true}
@@ -28,7 +28,7 @@ use Rattle.hept_ast.proofs.Unfolded.{tree}
 use Rattle.sound_expressions.specs.Sound.{Sound, Within, is_constant, is_async_constant, is_variable, is_last, is_unary, is_binary, is_if, is_fby, is_pre, is_arrow, is_when, is_merge, is_call, is_async_call, is_get}
 use Rattle.sound_expressions.proofs.FittedTypes.{all_two, fits_parts}
 use Rattle.step_engine.specs.Running.{IsDivision, IsNoDivision}
-use Rattle.plan_building.specs.Buildable.{HasDivisor, divisor}
+use Rattle.plan_expressions.specs.Computable.{HasDivisor, divisor}
 
 -- ---- numbers
 
@@ -89,9 +89,9 @@ constant_type k e c ts v (is_call {f = f} {args = args} eq named given fit leads
 constant_type k e c ts v (is_async_call {q = q} {f = f} {args = args} eq named given fit leads made) is int_is = no_constant e v (Form-F.AsyncCall q f args) eq is refl
 constant_type k e c ts v (is_get {a = a} eq s fit) is int_is = no_constant e v (Form-F.Get a) eq is refl
 
-divided_by : (op : BinaryOp) → IsDivision op → (divides op ≡ true) × ((us vs : List (List Ty)) → binary_fit op us ≡ binary_fit Div us)
-divided_by Div d = (refl, λ us vs. refl)
-divided_by Rem d = (refl, λ us vs. refl)
+divided_by : (op : BinaryOp) → IsDivision op → (divides op ≡ true) × ((us : List (List Ty)) → binary_fit op us ≡ binary_fit Div us)
+divided_by Div d = (refl, λ us. refl)
+divided_by Rem d = (refl, λ us. refl)
 divided_by _ d = absurd d
 
 by_tests : (c d : Bool) → c && not d ≡ false → c ≡ true → d ≡ true
@@ -103,7 +103,7 @@ pub has_divisor : (k : Within) (b : Expr) (c : Clock) (op : BinaryOp) (us vs ts 
 has_divisor k b c op us vs ts d s fit nonzero =
     let o = divided_by op d in
     let n = nonzero_form b.form (by_tests (divides op) (is_nonzero b.form) nonzero o.0) in
-    let p = fits_parts _ int ts (sym (o.1 (us ∷ vs ∷ []) []) ∙ fit) in
+    let p = fits_parts _ int ts (sym (o.1 (us ∷ vs ∷ [])) ∙ fit) in
     let q = all_two us vs int p.0 in
     let t = constant_type k b c vs n.0 s n.1 q.1 in
     divisor n.0 (form_by b.form (Form-F.Const n.0) (form.Const n.0) n.1 (form.rolls-Const n.0)) (value_nonzero k.types n.0 t.0 t.1 n.2)

@@ -1,6 +1,9 @@
 pub mod Divisors
 pub mod Computing
 pub mod RightSides
+pub mod Standing
+pub mod Grounding
+pub mod GroundedRights
 pub mod Places
 pub mod Ordering
 pub mod NodeFacts

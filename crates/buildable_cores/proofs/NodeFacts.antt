@@ -17,12 +17,12 @@ use Rattle.hept_ast.specs.declared.tree.Form.{Form, out-Form, roll-Form}
 use Rattle.hept_ast.specs.declared.tree.Form.TheOpen.{Form-F}
 use Rattle.hept_ast.specs.declared.tree.Form.TheViews.{roll-out-Form}
 use Rattle.hept_ast.specs.declared.tree.Form.TheVariants as form
-use Rattle.hept_ast.proofs.CalledForms.{called-Const, called-Var, called-Unary, called-Binary, called-If, called-Fby, called-Pre, called-Arrow}
+use Rattle.hept_ast.proofs.CalledForms.{called-Const, called-Var, called-Unary, called-Binary, called-If, called-Fby, called-Pre, called-Arrow, called-When, called-Merge}
 use Rattle.core_rules.specs.Cores.{as_interface}
 use Rattle.core_rules.specs.WellFormed.{IsClockedEquation, IsTypedEquation, IsWellFormedNode}
 use Rattle.core_naming.specs.Normal.{AreNormal, IsNormalRight}
 use Rattle.core_facts.specs.Undefined.{Grades, may}
-use Rattle.core_facts.specs.Static.{HasBranch, StaticEquation, StaticExpr, StaticNode}
+use Rattle.core_facts.specs.Static.{AreProper, HasBranch, StaticEquation, StaticExpr, StaticNode}
 use Rattle.served_programs.specs.Served.{is_served_form}
 use Rattle.sound_expressions.specs.Sound.{Sound}
 use Rattle.sound_expressions.specs.Demands.{Demanded}
@@ -30,7 +30,7 @@ use Rattle.sound_expressions.proofs.Expressions.{expression_sound}
 use Rattle.core_fitting.proofs.StandIn.{program_within, stand_in}
 use Rattle.core_fitting.proofs.StaticSound.{all_by, of_all}
 use Rattle.flat_cores.specs.Flat.{IsFlatEquation}
-use Rattle.buildable_cores.proofs.RightSides.{HasServedForm}
+use Rattle.flat_cores.proofs.ServedForms.{HasServedForm}
 
 -- served forms call nothing
 no_calls : (v : Form-F Form Expr MergeBranch) → is_served_form v ≡ true → called (roll-Form v) ≡ []
@@ -42,6 +42,8 @@ no_calls (Form-F.If c a b) h = ap called (form.rolls-If c a b) ∙ called-If c a
 no_calls (Form-F.Fby a b) h = ap called (form.rolls-Fby a b) ∙ called-Fby a b
 no_calls (Form-F.Pre a) h = ap called (form.rolls-Pre a) ∙ called-Pre a
 no_calls (Form-F.Arrow a b) h = ap called (form.rolls-Arrow a b) ∙ called-Arrow a b
+no_calls (Form-F.When a tag x) h = ap called (form.rolls-When a tag x) ∙ called-When a tag x
+no_calls (Form-F.Merge x bs) h = ap called (form.rolls-Merge x bs) ∙ called-Merge x bs
 no_calls _ h = absurd (false≢true h)
 
 calls_none : (e : Expr) → HasServedForm e → called e.form ≡ []
@@ -53,6 +55,8 @@ pub record IsReadyEquation (core : Core) (node : CoreNode) (g : Grades) (e : Cor
   pub normal : IsNormalRight e.right
   pub types : List Ty
   pub sound : Sound (program_within core node (may g)) [] e.right e.clock.steps types
+  pub branches : All (λ a. HasBranch (out-Form a.form)) (inside e.right)
+  pub proper : AreProper node g [] e.clock.steps
 
 module _ (core : Core) (node : CoreNode) (g : Grades) where
   right_sound : (e : CoreEquation) → IsFlatEquation e → StaticEquation core node g e → IsTypedEquation core node e → IsClockedEquation node e →
@@ -70,8 +74,12 @@ module _ (core : Core) (node : CoreNode) (g : Grades) where
         merged = λ y d none is tagged f. subst HasBranch none s.branch;
       })
 
+  branches : (e : CoreEquation) → StaticEquation core node g e → All (λ a. HasBranch (out-Form a.form)) (inside e.right)
+  branches e se = all_by (λ a. HasBranch (out-Form a.form)) (inside e.right) (λ x j. (of_all (StaticExpr core g e.resets) x (inside e.right) se.right j).branch)
+
   pub ready_equations : IsWellFormedNode core node → StaticNode core node g → AreNormal node.equations → All IsFlatEquation node.equations → All (IsReadyEquation core node g) node.equations
   ready_equations wf st normal flat = all_by (IsReadyEquation core node g) node.equations (λ e i.
       let f = of_all IsFlatEquation e node.equations flat i in
-      let s = right_sound e f (of_all (StaticEquation core node g) e node.equations st.equations i) (of_all (IsTypedEquation core node) e node.equations wf.typed i) (of_all (IsClockedEquation node) e node.equations wf.clocked i) in
-      record { flat = f; normal = of_all (λ (d : CoreEquation). IsNormalRight d.right) e node.equations normal i; types = s.0; sound = s.1 })
+      let se = of_all (StaticEquation core node g) e node.equations st.equations i in
+      let s = right_sound e f se (of_all (IsTypedEquation core node) e node.equations wf.typed i) (of_all (IsClockedEquation node) e node.equations wf.clocked i) in
+      record { flat = f; normal = of_all (λ (d : CoreEquation). IsNormalRight d.right) e node.equations normal i; types = s.0; sound = s.1; branches = branches e se; proper = se.clock })

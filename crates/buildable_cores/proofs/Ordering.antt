@@ -1,12 +1,12 @@
--- In an order in which each equation stands after those that it reads, what is read is an input or an earlier left side.
-use Rattle.std.proofs.Common.{◌≡◌, inl, inr, ℕ, zero, suc, ◌<◌, true, false, List, [], ◌∷◌, ◌++◌, map, length, refl, sym, ap, subst, ◌∙◌, arith, Some}
+-- In an order in which each equation stands after those that it reads, what it and its clock read is an input or an earlier left side.
+use Rattle.std.proofs.Common.{◌≡◌, inl, inr, ℕ, zero, suc, ◌<◌, true, List, [], ◌∷◌, ◌++◌, length, refl, sym, ap, subst, ◌∙◌, arith, Some}
 use Rattle.std.specs.Prelude.{slice_get}
 use Rattle.std.proofs.lemmas.Bool.{false≢true}
 use Rattle.hept_ast.specs.Texts.{Name, is_in, names}
-use Rattle.hept_ast.specs.Causal.{reads}
 use Rattle.hept_ast.specs.declared.tree.Core.{Core}
 use Rattle.hept_ast.specs.declared.tree.CoreEquation.{CoreEquation}
 use Rattle.hept_ast.specs.declared.tree.CoreNode.{CoreNode}
+use Rattle.core_rules.specs.Cores.{equation_reads}
 use Rattle.core_rules.specs.WellFormed.{IsWellFormedNode}
 use Rattle.schedule.specs.Order.{AreInOrder}
 use Rattle.core_fitting.proofs.Lists.{same_some}
@@ -38,14 +38,12 @@ at_seam [] e rest = refl
 at_seam (f ∷ front) e rest = at_seam front e rest
 
 pub reads_before : (core : Core) (node : CoreNode) → IsWellFormedNode core node → AreInOrder node.equations → (front : List CoreEquation) (e : CoreEquation) (rest : List CoreEquation) → node.equations ≡ front ++ e ∷ rest →
-    ReadsKnown node (names node.inputs ++ lefts front) (reads e.right.form)
+    ReadsKnown node (names node.inputs ++ lefts front) (equation_reads e)
 reads_before core node wf order front e rest all y read is_declared = elim (input_or_left core node wf y is_declared) [
   | inl i ↦ in_left y (names node.inputs) (lefts front) i
   | inr i ↦
       let d = defining y node.equations i in
       let here : slice_get node.equations (length front) ≡ Some e = ap (λ (es : List CoreEquation). slice_get es (length front)) all ∙ at_seam front e rest in
-      let steps = map (λ s. s.name) e.clock.steps in
-      let among = in_left y (reads e.right.form ++ steps) e.resets (in_left y (reads e.right.form) steps read) in
-      let lt = order (length front) d.place e d.equation here d.at (y, among, d.left) in
+      let lt = order (length front) d.place e d.equation here d.at (y, read, d.left) in
       in_right y (names node.inputs) (lefts front) (before y front (e ∷ rest) d.place d.equation (sym (ap (λ (es : List CoreEquation). slice_get es d.place) all) ∙ d.at) lt d.left)
 ]
