@@ -15,8 +15,8 @@ use Rattle.lowering_rules.specs.Lowering.{without_initial}
 use Rattle.node_memory.specs.Standing.{IsOneCallMore, StandsAfter, no_calls}
 use Rattle.node_memory.specs.Memories.{MakesCall, state_of}
 use Rattle.node_memory.specs.declared.memory.NodeMemory.{NodeMemory}
-use Rattle.plan_building.specs.Grounds.{ground_of}
-use Rattle.step_plans.specs.Memories.{Suits, rows_of}
+use Rattle.plan_equations.specs.Grounds.{ground_of}
+use Rattle.step_plans.specs.Memories.{IsReady, Suits, rows_of}
 use Rattle.step_plans.specs.Plans.{Ground}
 use Rattle.step_cells.specs.declared.cell.Cell.{Cell}
 use Rattle.step_cells.specs.Cells.{cells_of, row_of}
@@ -24,7 +24,7 @@ use Rattle.step_objects.specs.Shapes.{FitsShape, shape_of}
 use Rattle.step_objects.specs.Interfaces.{input_shape, inputs_shape, output_shape, outputs_shape}
 use Rattle.program_stepper.specs.Stepping.{GivesLast, Stands, input_count, output_count, setting, unmarked}
 use Rattle.program_stepper.specs.declared.stepper.Stepper.{Stepper}
-use Rattle.program_stepper.proofs.Calls.{count_unmarked, in_core, one_unmarked, ready_none, rows_unmarked, suits_none}
+use Rattle.program_stepper.proofs.Calls.{count_unmarked, in_core, one_unmarked, rows_unmarked, suits_none}
 use Rattle.program_stepper.proofs.RowByRow.{LastOf, last_of}
 use Rattle.program_stepper.proofs.RowShapes.{cells_fit, row_fits, shape_length}
 
@@ -82,7 +82,8 @@ module _ (has : AcceptedHasOutputs) (c : ClockedProgram) (rows : List (List ℕ)
       (omega arith) is ((h.planned.means.outputs no_marks (rows ++ row ∷ []) outs).0 is) outs_fit
 
   more : IsOneCallMore h.planned.core g [] h.planned.means.low no_calls (unmarked rows) (false, row) out (state_of new)
-  more = makes h.planned.core g h.planned.means.low (unmarked rows) false h.planned.is_plan (in_core h.planned.core h.planned.means.low) h.memory (ready_none h.planned.core h.planned.means.low (unmarked rows ++ (false, row) ∷ []))
+  more = makes h.planned.core g h.planned.means.low (unmarked rows) false h.planned.is_plan (in_core h.planned.core h.planned.means.low) h.memory
+      (subst (λ (calls : List (Bool × List ℕ)). IsReady h.planned.core g [] no_calls calls) (sym (one_unmarked rows row)) (h.planned.ready (rows ++ row ∷ []) rows_fit))
 
   suits : Suits h.planned.core g [] no_calls (unmarked rows ++ (false, row) ∷ []) no_marks no_replies
   suits = subst (λ (calls : List (Bool × List ℕ)). Suits h.planned.core g [] no_calls calls no_marks no_replies) (sym (one_unmarked rows row)) (suits_none h.planned.core h.planned.means.low (rows ++ row ∷ []))

@@ -1,5 +1,5 @@
 -- A call for each row, none of them marked.
-use Rattle.std.proofs.Common.{◌≡◌, ℕ, zero, suc, Bool, false, List, [], ◌∷◌, ◌++◌, length, Some, refl, sym, ap}
+use Rattle.std.proofs.Common.{◌≡◌, ℕ, zero, suc, false, List, [], ◌∷◌, ◌++◌, length, Some, refl, sym, ap}
 use Rattle.std.specs.Prelude.{slice_get}
 use Rattle.std.proofs.lemmas.List.{length-map}
 use Rattle.hept_ast.specs.Calls.{marks_of}
@@ -7,8 +7,8 @@ use Rattle.hept_ast.specs.Settings.{no_marks, no_replies}
 use Rattle.hept_ast.specs.declared.tree.Core.{Core}
 use Rattle.hept_ast.specs.declared.tree.CoreNode.{CoreNode}
 use Rattle.node_memory.specs.Standing.{no_calls}
-use Rattle.plan_building.specs.Grounds.{ground_of}
-use Rattle.step_plans.specs.Memories.{IsGroundIn, IsReady, Suits, rows_of}
+use Rattle.plan_equations.specs.Grounds.{ground_of}
+use Rattle.step_plans.specs.Memories.{IsGroundIn, Suits, rows_of}
 use Rattle.program_stepper.specs.Stepping.{unmarked}
 
 pub rows_unmarked : (rows : List (List ℕ)) → rows_of (unmarked rows) ≡ rows
@@ -36,14 +36,6 @@ suits_none core node rows = record {
   marks = λ t lt. sym (none_marked rows t);
   agrees = λ k site j made at here. absurd (nothing_at k site at);
   no_reply = λ k call at. absurd (nothing_at k call at);
-}
-
--- nothing is tested and nothing covered
-pub ready_none : (core : Core) (node : CoreNode) (calls : List (Bool × List ℕ)) → IsReady core (ground_of core node) [] no_calls calls
-ready_none core node calls = λ marked replies t suits lt. record {
-  firm = λ k x at. absurd (nothing_at k x at);
-  covered = λ k x at. absurd (nothing_at k x at);
-  arguments = λ k x at. absurd (nothing_at k x at);
 }
 
 pub in_core : (core : Core) (node : CoreNode) → IsGroundIn core (ground_of core node)

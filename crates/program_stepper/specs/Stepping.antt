@@ -11,9 +11,10 @@ use Rattle.hept_ast.specs.declared.tree.Core.{Core}
 use Rattle.hept_ast.specs.declared.tree.Node.{Node}
 use Rattle.accepted_meaning.specs.Ranges.{IsInRange}
 use Rattle.core_making.specs.Made.{MeansNode}
+use Rattle.step_plans.specs.Memories as memories
 use Rattle.step_plans.specs.Plans.{IsPlanOf}
 use Rattle.step_plans.specs.declared.plan.NodePlan.{NodePlan}
-use Rattle.plan_building.specs.Grounds.{ground_of}
+use Rattle.plan_equations.specs.Grounds.{ground_of}
 use Rattle.node_memory.specs.Standing.{IsSound, StandsAfter, no_calls}
 use Rattle.node_memory.specs.Memories.{HoldsCellsOf, IsMemoryOf, state_of}
 use Rattle.step_objects.specs.Shapes.{FitsShape}
@@ -56,11 +57,12 @@ pub record IsReady (s : Stepper) : Type 0 where
 abbrev pub unmarked : List (List ℕ) → List (Bool × List ℕ)
 unmarked rows = map (λ row. (false, row)) rows
 
--- the plan of the node of a core that means what this node of the program does
+-- the plan of the node of a core that means what this node of the program does, and what its calls need on rows that fit
 pub record IsPlanFor (c : ClockedProgram) (number : ℕ) (node : Node) (plan : NodePlan) : Type 0 where
   pub core : Core
   pub means : MeansNode c core number node
   pub is_plan : IsPlanOf (ground_of core means.low) [] means.low plan
+  pub ready : (rows : List (List ℕ)) → RowsFit c.program.types node.inputs rows → memories.IsReady core (ground_of core means.low) [] no_calls (unmarked rows)
 
 -- The stepper is where the rows have left the program: its plan is for the node that is run, and its memory stands for a call for
 -- each row.

@@ -17,6 +17,7 @@ use flat_cores::flat_laws;
 use hept_ast::{Accepted, Memory};
 use node_memory::{NodeMemory, step_node};
 use plan_nodes::build_node;
+use ready_nodes::ready_law;
 use std::alloc::Global;
 use step_objects::Cell;
 use step_plans::NodePlan;
@@ -32,6 +33,7 @@ fn plan_of(alloc: Global, accepted: &Accepted, number: usize) -> Result<NodePlan
 {
     flat_laws();
     buildable_law();
+    ready_law();
     let made = make_core(alloc, accepted)?;
     let core = made.core();
     let node = &core.nodes.as_slice()[number];

@@ -104,3 +104,30 @@ fn last_node(rt: HostRuntime) -> Result<(), Fail> {
         b"node main(x:int) returns (y:int) let y = x tel node second(x,z:int) returns (y:int) let y = z - x tel";
     writes(&rt, rt.alloc(), text, b"3 1\n", b"-2\n")
 }
+
+// A sum moves only where its clock is present, and keeps its value where it is absent.
+#[test]
+fn sum_on_a_clock(rt: HostRuntime) -> Result<(), Fail> {
+    let text =
+        b"node main(c:bool; x:int) returns (y:int) var s:int; let s = (0 fby s) + (x when c); y = merge c (true -> s) (false -> 0) tel";
+    let trace = b"true 1\nfalse 2\ntrue 3\ntrue 4\n";
+    writes(&rt, rt.alloc(), text, trace, b"1\n0\n4\n8\n")
+}
+
+// The first instant of a clock is that at which it is first present.
+#[test]
+fn first_instant_of_a_clock(rt: HostRuntime) -> Result<(), Fail> {
+    let text =
+        b"node main(c:bool; x:int) returns (y:int) var s:int; let s = (x when c) -> pre (x when c); y = merge c (true -> s) (false -> -1) tel";
+    let trace = b"false 1\ntrue 2\nfalse 3\ntrue 4\ntrue 5\n";
+    writes(&rt, rt.alloc(), text, trace, b"-1\n2\n-1\n2\n4\n")
+}
+
+// A merge by a declared type, on a clock of its own, in another merge.
+#[test]
+fn merge_in_a_merge(rt: HostRuntime) -> Result<(), Fail> {
+    let text =
+        b"type t = A | B | C node main(c:bool; k:t; x:int) returns (y:int) var n:int; kc:t; let n = merge c (true -> merge kc (A -> 1) (B -> x when c when B(kc)) (C -> 3)) (false -> 0); y = n; kc = k when c tel";
+    let trace = b"true A 7\ntrue B 8\nfalse B 9\ntrue C 5\n";
+    writes(&rt, rt.alloc(), text, trace, b"1\n8\n0\n3\n")
+}

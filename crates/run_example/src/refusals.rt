@@ -26,13 +26,6 @@ fn not_served<R: Abort>(rt: &R, alloc: Global, text: &[u8]) -> Result<(), Fail> 
 }
 
 #[test]
-fn other_form(rt: HostRuntime) -> Result<(), Fail> {
-    let text =
-        b"node main(c:bool; x:int) returns (y:int) let y = merge c (true -> x when c) (false -> x whenot c) tel";
-    not_served(&rt, rt.alloc(), text)
-}
-
-#[test]
 fn last_value(rt: HostRuntime) -> Result<(), Fail> {
     let text = b"node main(x:int) returns (last y:int = 0) let y = x tel";
     not_served(&rt, rt.alloc(), text)

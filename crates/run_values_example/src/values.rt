@@ -110,3 +110,23 @@ fn constructors(rt: HostRuntime) -> Result<(), Fail> {
         b"type mode = Coarse | Fine\nnode main(m:mode) returns (k:mode; b:bool) let k = if m = Coarse then Fine else Coarse; b = m = Fine tel";
     expect_values(&rt, rt.alloc(), text, "Coarse\nFine\n", 2)
 }
+
+#[test]
+fn memories(rt: HostRuntime) -> Result<(), Fail> {
+    let text =
+        b"node main(x:int) returns (y,z:int) let y = 0 -> z - pre z; z = x * 2 + (1 fby (z - y)) tel";
+    expect_values(&rt, rt.alloc(), text, "5\n7\n4\n", 3)
+}
+
+#[test]
+fn sums_on_two_clocks(rt: HostRuntime) -> Result<(), Fail> {
+    let text =
+        b"node main(c:bool; x:int) returns (y:int) var s,r:int; let s = (0 fby s) + (x when c); r = (x whenot c) -> pre (x whenot c); y = merge c (true -> s) (false -> r) tel";
+    expect_values(
+        &rt,
+        rt.alloc(),
+        text,
+        "true 1\nfalse 2\ntrue 3\nfalse 4\nfalse 5\n",
+        5,
+    )
+}

@@ -1,7 +1,7 @@
 use Rattle.std.proofs.Common.{◌<◌, length, rules, sym, ap, ◌∙◌}
 use Rattle.std.proofs.lemmas.Result.{IfOk-weaker}
 use Rattle.hept_ast.specs.declared.tree.Core.{Core}
-use Rattle.program_stepper.proofs.Planning.{buildable_as, index_is, index_within, made_at, planned}
+use Rattle.program_stepper.proofs.Planning.{buildable_as, index_is, index_within, made_at, planned, ready_on}
 use Rattle.program_stepper.proofs.stepper.plan_of.Goals as goal
 
 pub make_core-requires-clause-plain : goal.make_core-requires-clause-plain
@@ -30,5 +30,6 @@ returns-clause-plan c = λ node at.
     let core : Core = c.in_ok-made.made in
     let means = c.in_ok-made.ensures.means c.args.number node at in
     let built = index_is core c.core-core.result.now c.as_slice.result.now c.args.number means.low c.index-as_slice-number.result c.core-core.ensures.same c.as_slice.ensures means.at c.index-as_slice-number.is in
-    IfOk-weaker c.build_node.result _ _ (λ plan h. planned c.args.accepted.now core c.args.number node means c.index-as_slice-number.result plan built h)
+    IfOk-weaker c.build_node.result _ _ (λ plan h. planned c.args.accepted.now core c.args.number node means c.index-as_slice-number.result plan built h
+    (ready_on c.ready_law.ensures c.args.accepted.now core c.args.number node means.low c.core-core.ensures.ordered c.core-core.ensures.facts (c.in_ok-made.ensures.flat c.requires.served) c.in_ok-made.ensures.names c.in_ok-made.ensures.types means.at means.takes))
     (c.build_node.ensures.plan core (sym (c.as_slice-2.ensures ∙ ap (λ (d : Core). d.types) c.core-core.ensures.same)))

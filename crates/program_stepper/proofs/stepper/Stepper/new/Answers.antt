@@ -2,7 +2,7 @@ use Rattle.std.proofs.Common.{◌≡◌, ℕ, ◌+◌, ◌-◌, [], length, Some
 use Rattle.hept_ast.specs.Scopes.{Written}
 use Rattle.hept_ast.specs.declared.tree.Program.{Program}
 use Rattle.node_memory.specs.Standing.{no_calls}
-use Rattle.plan_building.specs.Grounds.{ground_of}
+use Rattle.plan_equations.specs.Grounds.{ground_of}
 use Rattle.program_stepper.specs.Stepping.{IsPlanFor}
 use Rattle.program_stepper.proofs.Interfaces.{last_node, some_nodes}
 use Rattle.program_stepper.proofs.RowByRow.{no_rows}
