@@ -124,6 +124,17 @@ def star_tracker(trace):
             is_near = abs(known) < 100
 
 
+def cascade(trace):
+    total = held = speed = 0
+    for t, (mode, goal, place, manual) in enumerate(trace):
+        tick = mode == "Auto" and t % 4 == 0
+        if tick:
+            total += goal - place
+            held = over(goal - place, 2) + over(total, 8)
+        speed += over((held if mode == "Auto" else manual) - speed, 2)
+        yield [speed, tick]
+
+
 def read(word):
     if word in ("true", "false"):
         return word == "true"
@@ -136,7 +147,7 @@ def shown(value):
 
 def main():
     models = [delayed_sum, integrator, low_pass_filter, debouncer, pi_controller, rate_limiter, watchdog]
-    models += [hysteresis, voter, launch_sequence, thermostat, star_tracker]
+    models += [hysteresis, cascade, voter, launch_sequence, thermostat, star_tracker]
     wrong = 0
     for model in models:
         name = model.__name__
