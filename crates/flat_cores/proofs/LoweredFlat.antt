@@ -10,12 +10,12 @@ use Rattle.hept_ast.specs.declared.tree.Equation.{Equation}
 use Rattle.hept_ast.specs.declared.tree.Expr.{Expr}
 use Rattle.hept_ast.specs.declared.tree.MergeBranch.{MergeBranch}
 use Rattle.hept_ast.specs.declared.tree.Node.{Node}
-use Rattle.lowering_rules.specs.Lowering.{node_frame, Lowers, LowersBranches, LowersEquations, LowersNodes}
+use Rattle.lowering_rules.specs.Lowering.{node_frame, Lowers, LowersAll, LowersBranches, LowersEquations, LowersNodes}
 use Rattle.lowering_rules.specs.Lowering as lowering
 use Rattle.served_programs.specs.Served.{IsServedNode}
 use Rattle.flat_cores.specs.Flat.{IsFlatEquation}
 use Rattle.flat_cores.specs.FlatLaws.{LoweringIsFlat}
-use Rattle.flat_cores.proofs.ServedForms.{Served, served_var, served_unary, served_binary, served_if, served_fby, served_pre, served_arrow, of_unary, of_binary, of_if, of_fby, of_pre, of_arrow, of_when, of_merge, of_branch, served_when, served_merge, served_branch, ServedBranches, no_last, no_call, no_async, no_ready, no_get}
+use Rattle.flat_cores.proofs.ServedForms.{Served, served_var, served_unary, served_binary, served_if, served_fby, served_pre, served_arrow, of_unary, of_binary, of_if, of_fby, of_pre, of_arrow, of_when, of_merge, of_branch, of_call, of_argument, served_when, served_merge, served_branch, served_call, served_argument, ServedArguments, ServedBranches, no_last, no_async, no_ready, no_get}
 use Rattle.flat_cores.proofs.ServedNodes.{ServedBody, served_body}
 use Rattle.flat_cores.proofs.ServedNodes as body
 
@@ -40,10 +40,16 @@ mutual
       served_arrow p b d (lowered_served l s.0) (lowered_served m s.1)
   lowered_served (lowering.when {p = p} {a = a} {b = b} {tag = tag} {x = x} l) h = served_when p b tag x (lowered_served l (of_when p a tag x h))
   lowered_served (lowering.merge {p = p} {x = x} {bs = bs} {cs = cs} l) h = served_merge p x cs (branches_served l (of_merge p x bs h))
-  lowered_served (lowering.call {p = p} {g = g} {es = es} l) h = absurd (no_call p g es h)
+  lowered_served (lowering.call {n = n} {p = p} {g = g} {es = es} {rs = rs} l) h = served_call (record { 0 = n }) g rs (arguments_served l (of_call p g es h))
   lowered_served (lowering.async_call {p = p} {q = q} {g = g} {es = es} l) h = absurd (no_async p q g es h)
   lowered_served (lowering.async_const {p = p} {k = k}) h = absurd (no_ready p k h)
   lowered_served (lowering.get {p = p} {a = a} l) h = absurd (no_get p a h)
+
+  arguments_served : {n m : ℕ} {es rs : List Expr} → LowersAll node_frame n es rs m → ServedArguments es → ServedArguments rs
+  arguments_served lowering.no_exprs h = h
+  arguments_served (lowering.more_exprs {e = e} {r = r} {es = es} {rs = rs} l ls) h =
+      let s = of_argument e es h in
+      served_argument r rs (lowered_served l s.0) (arguments_served ls s.1)
 
   branches_served : {n m : ℕ} {bs cs : List MergeBranch} → LowersBranches node_frame n bs cs m → ServedBranches bs → ServedBranches cs
   branches_served lowering.no_branches h = h
@@ -55,8 +61,8 @@ mutual
 
 flat_equations : {clock : Name → Clock} {n m : ℕ} {es : List Equation} {cs : List CoreEquation} → ServedBody es → LowersEquations node_frame clock n es cs m → All IsFlatEquation cs
 flat_equations body.no_equation lowering.no_equations = All-nil IsFlatEquation
-flat_equations (body.one_more {x = x} s more) (lowering.more_equations (lowering.define l) ls) =
-    All-cons IsFlatEquation _ _ (record { name = x; left = refl; resets = refl; forms = lowered_served l s }) (flat_equations more ls)
+flat_equations (body.one_more s more) (lowering.more_equations (lowering.define l) ls) =
+    All-cons IsFlatEquation _ _ (record { resets = refl; forms = lowered_served l s }) (flat_equations more ls)
 
 flat_nodes : {clock : ℕ → Name → Clock} {k : ℕ} {nodes : List Node} {lows : List CoreNode} → All IsServedNode nodes → LowersNodes clock k nodes lows → All (λ node. All IsFlatEquation node.equations) lows
 flat_nodes h lowering.no_nodes = All-nil _

@@ -1,5 +1,5 @@
 -- A flat core stays flat while subexpressions become variables.
-use Rattle.std.proofs.Common.{List, [], ◌∷◌, ◌++◌, refl, sym, subst}
+use Rattle.std.proofs.Common.{List, [], ◌∷◌, ◌++◌, sym, subst}
 use Rattle.std.specs.Prelude.{All}
 use Rattle.std.proofs.lemmas.List.Elements.{All-nil, All-cons, All-head, All-tail, All-append}
 use Rattle.hept_ast.specs.Texts.{Name}
@@ -16,14 +16,19 @@ use Rattle.naming_rules.proofs.NamedShapes.{NamedCases, branch_at, by_names}
 use Rattle.sound_expressions.proofs.Expressions.{all_left, all_right}
 use Rattle.flat_cores.specs.Flat.{IsFlatCore, IsFlatEquation}
 use Rattle.flat_cores.specs.FlatLaws.{NamingKeepsFlat}
-use Rattle.flat_cores.proofs.ServedForms.{Served, served_var, served_unary, served_binary, served_if, served_fby, served_pre, served_arrow, of_unary, of_binary, of_if, of_fby, of_pre, of_arrow, of_when, of_merge, of_branch, served_when, served_merge, served_branch, ServedBranches, no_call, no_async, no_get}
+use Rattle.flat_cores.proofs.ServedForms.{Served, served_var, served_unary, served_binary, served_if, served_fby, served_pre, served_arrow, of_unary, of_binary, of_if, of_fby, of_pre, of_arrow, of_when, of_merge, of_branch, of_call, of_argument, served_when, served_merge, served_branch, served_call, served_argument, ServedArguments, ServedBranches, no_async, no_get}
 
 -- what stays of a served expression, and what was taken out
 record StaysServed (a r : Expr) : Type 0 where
   right : Served r
   taken : Served a
 
--- the same of a merge's branches
+-- the same of a call's arguments
+record StayArguments (a : Expr) (ms : List Expr) : Type 0 where
+  values : ServedArguments ms
+  taken : Served a
+
+-- and of a merge's branches
 record StayServed (a : Expr) (ms : List MergeBranch) : Type 0 where
   values : ServedBranches ms
   taken : Served a
@@ -33,7 +38,7 @@ module _ (x : Name) (a : Expr) (d : Clock) where
   Q c e r = Served e → StaysServed a r
 
   abbrev QA : Clock → List Expr → List Expr → Type 0
-  QA c es ms = Unit {0}
+  QA c es ms = ServedArguments es → StayArguments a ms
 
   abbrev QB : Name → Clock → List MergeBranch → List MergeBranch → Type 0
   QB y c bs ms = ServedBranches bs → StayServed a ms
@@ -57,11 +62,17 @@ module _ (x : Name) (a : Expr) (d : Clock) where
     at_arrow_next = λ c p b f m q h. let o = of_arrow p b f h in let s = q o.1 in with s (served_arrow p b m o.0 s.right);
     at_when = λ c p b m tag y q h. let s = q (of_when p b tag y h) in with s (served_when p m tag y s.right);
     at_merge = λ c p y bs ms q h. let s = q (of_merge p y bs h) in record { right = served_merge p y ms s.values; taken = s.taken };
-    at_call = λ c p f es ms q h. absurd (no_call p f es h);
+    at_call = λ c p f es ms q h. let s = q (of_call p f es h) in record { right = served_call p f ms s.values; taken = s.taken };
     at_async = λ c p k f es ms q h. absurd (no_async p k f es h);
     at_get = λ c p b m q h. absurd (no_get p b h);
-    this_one = λ c e m es q. tt;
-    later_one = λ c e es ms q. tt;
+    this_one = λ c e m es q h.
+        let o = of_argument e es h in
+        let s = q o.0 in
+        record { values = served_argument m es s.right o.1; taken = s.taken };
+    later_one = λ c e es ms q h.
+        let o = of_argument e es h in
+        let s = q o.1 in
+        record { values = served_argument e ms o.0 s.values; taken = s.taken };
     this_value = λ y c p tag e m bs q h.
         let o = of_branch (branch_at p tag e) bs h in
         let s = q o.0 in
@@ -83,8 +94,8 @@ flat_node x a d t node moved n h =
     let here = all_right IsFlatEquation n.front (n.equation ∷ n.back) all in
     let flat = All-head IsFlatEquation n.equation n.back here in
     let s = stays_served x a d n.equation.clock.steps n.equation.right n.right n.named flat.forms in
-    let new : IsFlatEquation (new_equation x a d n.equation.resets) = record { name = x; left = refl; resets = flat.resets; forms = s.taken } in
-    let changed : IsFlatEquation (with_right n.equation n.right) = record { name = flat.name; left = flat.left; resets = flat.resets; forms = s.right } in
+    let new : IsFlatEquation (new_equation x a d n.equation.resets) = record { resets = flat.resets; forms = s.taken } in
+    let changed : IsFlatEquation (with_right n.equation n.right) = record { resets = flat.resets; forms = s.right } in
     subst (All IsFlatEquation) (sym n.others)
     (flat_parts n.front (with_right n.equation n.right) n.back (new_equation x a d n.equation.resets) (all_left IsFlatEquation n.front (n.equation ∷ n.back) all) changed
     (All-tail IsFlatEquation n.equation n.back here) new)

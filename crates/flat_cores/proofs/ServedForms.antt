@@ -15,7 +15,7 @@ use Rattle.hept_ast.specs.declared.tree.MergeBranch.{MergeBranch}
 use Rattle.hept_ast.specs.declared.tree.Form.{Form, out-Form}
 use Rattle.hept_ast.specs.declared.tree.Form.TheOpen.{Form-F}
 use Rattle.hept_ast.specs.declared.tree.Form.TheVariants as form
-use Rattle.hept_ast.proofs.FormsOf.{below-Var, below-Unary, below-Binary, below-If, below-Fby, below-Pre, below-Arrow, below-When, below-Merge}
+use Rattle.hept_ast.proofs.FormsOf.{below-Var, below-Unary, below-Binary, below-If, below-Fby, below-Pre, below-Arrow, below-When, below-Merge, below-Call}
 use Rattle.naming_rules.proofs.Shapes.{at, out_Last, out_Unary, out_Binary, out_If, out_Fby, out_Pre, out_Arrow, out_When, out_Merge, out_Call, out_AsyncCall, out_AsyncConst, out_Get, out_Var}
 use Rattle.served_programs.specs.Served.{is_served_form}
 use Rattle.sound_expressions.proofs.Expressions.{all_left, all_right}
@@ -68,6 +68,16 @@ served_merge p x bs h = served_of p (form.Merge x bs) (Form-F.Merge x bs) (flat_
 pub served_branch : (b : MergeBranch) (bs : List MergeBranch) → Served b.value → ServedBranches bs → ServedBranches (b ∷ bs)
 served_branch b bs h k = All-append HasServedForm (inside b.value) (flat_map (λ b. inside b.value) bs) h k
 
+-- all of the arguments of a call
+abbrev pub ServedArguments : List Expr → Type 0
+ServedArguments es = All HasServedForm (flat_map inside es)
+
+pub served_call : (p : Place) (f : Name) (es : List Expr) → ServedArguments es → Served (at p (form.Call f es))
+served_call p f es h = served_of p (form.Call f es) (Form-F.Call f es) (flat_map inside es) (out_Call f es) refl (below-Call f es) h
+
+pub served_argument : (e : Expr) (es : List Expr) → Served e → ServedArguments es → ServedArguments (e ∷ es)
+served_argument e es h k = All-append HasServedForm (inside e) (flat_map inside es) h k
+
 -- ---- and back
 
 operands_of : (p : Place) (f : Form) (es : List Expr) → below f ≡ es → Served (at p f) → All HasServedForm es
@@ -106,6 +116,12 @@ of_merge p x bs h = operands_of p (form.Merge x bs) (flat_map (λ b. inside b.va
 pub of_branch : (b : MergeBranch) (bs : List MergeBranch) → ServedBranches (b ∷ bs) → Served b.value × ServedBranches bs
 of_branch b bs h = (all_left HasServedForm (inside b.value) (flat_map (λ b. inside b.value) bs) h, all_right HasServedForm (inside b.value) (flat_map (λ b. inside b.value) bs) h)
 
+pub of_call : (p : Place) (f : Name) (es : List Expr) → Served (at p (form.Call f es)) → ServedArguments es
+of_call p f es h = operands_of p (form.Call f es) (flat_map inside es) (below-Call f es) h
+
+pub of_argument : (e : Expr) (es : List Expr) → ServedArguments (e ∷ es) → Served e × ServedArguments es
+of_argument e es h = (all_left HasServedForm (inside e) (flat_map inside es) h, all_right HasServedForm (inside e) (flat_map inside es) h)
+
 -- ---- forms that are not served
 
 not_served : (p : Place) (f : Form) (v : Form-F Form Expr MergeBranch) → out-Form f ≡ v → is_served_form v ≡ false → Served (at p f) → ⊥
@@ -116,9 +132,6 @@ not_served p f v o n h =
 
 pub no_last : (p : Place) (x : Name) → Served (at p (form.Last x)) → ⊥
 no_last p x h = not_served p (form.Last x) (Form-F.Last x) (out_Last x) refl h
-
-pub no_call : (p : Place) (f : Name) (args : List Expr) → Served (at p (form.Call f args)) → ⊥
-no_call p f args h = not_served p (form.Call f args) (Form-F.Call f args) (out_Call f args) refl h
 
 pub no_async : (p : Place) (q : ℕ) (f : Name) (args : List Expr) → Served (at p (form.AsyncCall q f args)) → ⊥
 no_async p q f args h = not_served p (form.AsyncCall q f args) (Form-F.AsyncCall q f args) (out_AsyncCall q f args) refl h

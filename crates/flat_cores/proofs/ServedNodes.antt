@@ -28,22 +28,20 @@ use Rattle.flat_cores.specs.FlatLaws.{ServedIsPlain}
 use Rattle.sound_expressions.proofs.Expressions.{all_left, all_right}
 use Rattle.flat_cores.proofs.ServedForms.{HasServedForm, Served}
 
--- equations that each define one variable by an expression of served forms
+-- plain equations whose right sides are of served forms
 pub data ServedBody : List Equation → Type 0 where
   no_equation : ServedBody []
-  one_more : {p : Place} {x : Name} {right : Expr} {es : List Equation} → Served right → ServedBody es → ServedBody (equation.Define p (x ∷ []) right ∷ es)
+  one_more : {p : Place} {left : List Name} {right : Expr} {es : List Equation} → Served right → ServedBody es → ServedBody (equation.Define p left right ∷ es)
 
 -- a served equation by its parts
-record OneVariable (e : Equation) : Type 0 where
+record PlainEquation (e : Equation) : Type 0 where
   place : Place
-  name : Name
+  left : List Name
   right : Expr
-  is : e ≡ equation.Define place (name ∷ []) right
+  is : e ≡ equation.Define place left right
 
-by_view : (e : Equation) (v : Equation-F Equation Block Branch State) → out-Equation e ≡ v → IsServedEquation v → OneVariable e
-by_view e (Equation-F.Define p [] right) o h = absurd h
-by_view e (Equation-F.Define p (x ∷ []) right) o h = record { place = p; name = x; right = right; is = sym (roll-out-Equation e) ∙ ap roll-Equation o ∙ equation.rolls-Define p (x ∷ []) right }
-by_view e (Equation-F.Define p (x ∷ y ∷ xs) right) o h = absurd h
+by_view : (e : Equation) (v : Equation-F Equation Block Branch State) → out-Equation e ≡ v → IsServedEquation v → PlainEquation e
+by_view e (Equation-F.Define p left right) o h = record { place = p; left = left; right = right; is = sym (roll-out-Equation e) ∙ ap roll-Equation o ∙ equation.rolls-Define p left right }
 by_view e (Equation-F.Switch p on branches) o h = absurd h
 by_view e (Equation-F.Reset p block every) o h = absurd h
 by_view e (Equation-F.Automaton p states) o h = absurd h
@@ -52,8 +50,8 @@ body_served : (es : List Equation) → All (λ e. IsServedEquation (out-Equation
 body_served [] h k = no_equation
 body_served (e ∷ es) h k =
     let v = by_view e (out-Equation e) refl (All-head (λ e. IsServedEquation (out-Equation e)) e es h) in
-    let q : inner_parts e ++ flat_map inner_parts es ≡ inner_parts (equation.Define v.place (v.name ∷ []) v.right) ++ flat_map inner_parts es = ap (λ d. inner_parts d ++ flat_map inner_parts es) v.is in
-    let r = q ∙ ap (λ ps. ps ++ flat_map inner_parts es) (inner-Define v.place (v.name ∷ []) v.right) in
+    let q : inner_parts e ++ flat_map inner_parts es ≡ inner_parts (equation.Define v.place v.left v.right) ++ flat_map inner_parts es = ap (λ d. inner_parts d ++ flat_map inner_parts es) v.is in
+    let r = q ∙ ap (λ ps. ps ++ flat_map inner_parts es) (inner-Define v.place v.left v.right) in
     let k' = subst (λ ps. All HasServedForm (flat_map expressions_in ps)) r k in
     let k'' = subst (λ (xs : List Expr). All HasServedForm (xs ++ flat_map expressions_in (flat_map inner_parts es))) (append-nil (inside v.right)) k' in
     subst (λ (d : Equation). ServedBody (d ∷ es)) (sym v.is)

@@ -1,5 +1,5 @@
--- The programs that are run so far: nodes of plain equations over constants, variables, operators, `if`, memory operators, `when` and merges, and of plain types.
-use Rattle.std.specs.Prelude.{◌≡◌, Bool, true, false, IsTrue, [], ◌∷◌, None, All}
+-- The programs that are run so far: nodes of plain equations over constants, variables, operators, `if`, memory operators, `when`, merges and synchronous calls, and of plain types.
+use Rattle.std.specs.Prelude.{◌≡◌, Bool, true, false, IsTrue, None, All}
 use Rattle.hept_ast.specs.Parts.{expressions, variables}
 use Rattle.hept_ast.specs.Types as types
 use Rattle.hept_ast.specs.declared.tree.Program.{Program}
@@ -15,7 +15,7 @@ use Rattle.hept_ast.specs.declared.tree.MergeBranch.{MergeBranch}
 use Rattle.hept_ast.specs.declared.tree.Form.{Form, out-Form}
 use Rattle.hept_ast.specs.declared.tree.Form.TheOpen.{Form-F}
 
--- a constant, a variable, an operator, `if`, `fby`, `pre`, `->`, `when` or a merge
+-- a constant, a variable, an operator, `if`, `fby`, `pre`, `->`, `when`, a merge or a synchronous call
 abbrev pub is_served_form : Form-F Form Expr MergeBranch → Bool
 is_served_form (Form-F.Const k) = true
 is_served_form (Form-F.Var x) = true
@@ -27,11 +27,12 @@ is_served_form (Form-F.Pre a) = true
 is_served_form (Form-F.Arrow a b) = true
 is_served_form (Form-F.When a tag x) = true
 is_served_form (Form-F.Merge x branches) = true
+is_served_form (Form-F.Call f args) = true
 is_served_form _ = false
 
--- a plain equation that defines one variable
+-- a plain equation, also one of several names
 abbrev pub IsServedEquation : Equation-F Equation Block Branch State → Type 0
-IsServedEquation (Equation-F.Define p (x ∷ []) right) = Unit {0}
+IsServedEquation (Equation-F.Define p left right) = Unit {0}
 IsServedEquation _ = ⊥
 
 -- a declaration of a plain type, without an initial constant

@@ -30,6 +30,7 @@ fn has_served_form(expr: &Expr) -> bool
             | Form::Arrow(..)
             | Form::When(..)
             | Form::Merge(..)
+            | Form::Call(..)
     )
 }
 
@@ -45,14 +46,11 @@ fn have_served_forms(mut exprs: &[&Expr]) -> bool
     true
 }
 
-/// Whether an equation is a plain one that defines one variable.
+/// Whether an equation is a plain one.
 fn is_served_equation(equation: &Equation) -> bool
     ensures { IsTrue result ↔ IsServedEquation (out-Equation equation.now) }
 {
-    let Equation::Define { left, .. } = equation else {
-        return false;
-    };
-    matches!(left.as_slice(), [_])
+    matches!(equation, Equation::Define { .. })
 }
 
 fn are_served_equations(mut equations: &[Equation]) -> bool
@@ -105,8 +103,8 @@ fn is_served_node(alloc: Global, node: &Node) -> Result<bool, Memory>
     Ok(are_plain(&decls))
 }
 
-/// Whether each node of a program has only plain equations of one variable each, over constants,
-/// variables, operators, `if`, memory operators, `when` and merges, and only variables of plain types.
+/// Whether each node of a program has only plain equations over constants, variables, operators, `if`,
+/// memory operators, `when`, merges and synchronous calls, and only variables of plain types.
 pub fn is_served(alloc: Global, program: &Program) -> Result<bool, Memory>
     ensures { IfOk result (λ b. IsTrue b ↔ IsServed program.now) }
 {
