@@ -12,7 +12,7 @@ use Rattle.hept_ast.specs.declared.tree.ClockStep.{ClockStep}
 use Rattle.hept_ast.specs.declared.tree.CoreNode.{CoreNode}
 use Rattle.step_plans.specs.Things.{Here, Named}
 use Rattle.step_plans.specs.Operations.{In_values}
-use Rattle.step_plans.specs.Plans.{Ground, Entry, Has, Tests, flag, here_under, top_of}
+use Rattle.step_plans.specs.Plans.{Ground, Entry, Has, Tests, flag, here_under}
 use Rattle.step_plans.specs.declared.instruction.Instruction.TheVariants as does
 use Rattle.plan_expressions.specs.Building.{IsAdded, KnowsMore}
 use Rattle.plan_expressions.specs.Clocked.{Supplied}
@@ -22,7 +22,7 @@ use Rattle.plan_expressions.proofs.KeptWithin.{keeps_variable}
 use Rattle.plan_expressions.proofs.PlacesOf.{named_at}
 use Rattle.plan_expressions.proofs.Presences.{inner_supplied, longer_by_one, supplied_later}
 use Rattle.plan_expressions.proofs.Within.{added_within}
-use Rattle.plan_equations.specs.Equations.{BuildsPresences, IsProperClock, base, one_more, KeepsPresences, inside_of}
+use Rattle.plan_equations.specs.Equations.{BuildsPresences, IsProperClock, no_step, one_more, KeepsPresences, inside_of}
 use Rattle.plan_equations.proofs.KeptCells.{below_later}
 
 -- ---- the last step of a clock
@@ -37,76 +37,77 @@ last_same (z ∷ zs) (w ∷ ws) x y e =
     let h = last_same zs ws x y rest in
     (ap (λ (v : _). v ∷ zs) first ∙ ap (λ (vs : List _). w ∷ vs) h.0, h.1)
 
-record IsLast (g : Ground) (node : CoreNode) (c : Clock) (p : ClockStep) : Type 0 where
-  before : IsProperClock g node c
+record IsLast (g : Ground) (node : CoreNode) (b : Scope) (c : Clock) (p : ClockStep) : Type 0 where
+  before : IsProperClock g node b c
   place : ℕ
-  tested : slice_get g.tested place ≡ Some (Tests node p.name (top_of node))
+  tested : slice_get g.tested place ≡ Some (Tests node p.name b)
   clock : clock_of_equation (equation_of node p.name) ≡ c
 
-last_of : (g : Ground) (node : CoreNode) (d c : Clock) (p : ClockStep) → d ≡ c ++ p ∷ [] → IsProperClock g node d → IsLast g node c p
-last_of g node d c p e base = absurd (omega (arith, ap length e, longer_by_one c p))
-last_of g node d c p e (one_more {c = b} q place clock tested is) =
-    let same = last_same b c q p e in
-    let given : IsLast g node b q = record { before = clock; place = place; tested = tested; clock = is } in
-    subst (λ (z : Clock). IsLast g node z p) same.0 (subst (λ (z : ClockStep). IsLast g node b z) same.1 given)
+last_of : (g : Ground) (node : CoreNode) (b : Scope) (d c : Clock) (p : ClockStep) → d ≡ c ++ p ∷ [] → IsProperClock g node b d → IsLast g node b c p
+last_of g node b d c p e no_step = absurd (omega (arith, ap length e, longer_by_one c p))
+last_of g node b d c p e (one_more {c = f} q place clock tested is) =
+    let same = last_same f c q p e in
+    let given : IsLast g node b f q = record { before = clock; place = place; tested = tested; clock = is } in
+    subst (λ (z : Clock). IsLast g node b z p) same.0 (subst (λ (z : ClockStep). IsLast g node b f z) same.1 given)
 
 -- ---- the base clock
 
-base_present : (entries : List Entry) (s : Scope) → Has entries (Here [] s) (In_values 0) → (k : ℕ) → k < 1 → Has entries (Here (take k []) s) (In_values (slice_index (0 ∷ []) k))
-base_present entries s here zero lt = here
-base_present entries s here (suc k) lt = absurd (omega arith)
+base_present : (entries : List Entry) (s : Scope) (base : ℕ) → Has entries (Here [] s) (In_values base) → (k : ℕ) → k < 1 → Has entries (Here (take k []) s) (In_values (slice_index (base ∷ []) k))
+base_present entries s base here zero lt = here
+base_present entries s base here (suc k) lt = absurd (omega arith)
 
-base_below : (at k : ℕ) → 0 < at → k < 1 → slice_index (0 ∷ []) k < at
-base_below at zero some lt = some
-base_below at (suc k) some lt = absurd (omega arith)
+base_below : (base at k : ℕ) → base < at → k < 1 → slice_index (base ∷ []) k < at
+base_below base at zero some lt = some
+base_below base at (suc k) some lt = absurd (omega arith)
 
-base_each : (at : ℕ) → 0 < at → All (λ q. q < at) (0 ∷ [])
-base_each at some zero d lt = some
-base_each at some (suc k) d lt = absurd (omega (arith, lt))
+base_each : (base at : ℕ) → base < at → All (λ q. q < at) (base ∷ [])
+base_each base at some zero d lt = some
+base_each base at some (suc k) d lt = absurd (omega (arith, lt))
 
-builds_base : (types : List TypeDec) (variables : List Name) (registers : List ℕ) (draft : Draft) → BuildsPresences types variables [] registers draft draft (0 ∷ [])
-builds_base types variables registers draft g node start same clock some built = record {
+builds_base : (types : List TypeDec) (variables : List Name) (base : ℕ) (registers : List ℕ) (draft : Draft) → BuildsPresences types variables [] base registers draft draft (base ∷ [])
+builds_base types variables base registers draft g node b start same body clock built = record {
   built = built;
   more = knows_same built.here;
   longer = omega (arith, built.leads.at);
   present = record {
     long = λ z. refl;
-    body = base_present built.here.entries (top_of node) built.base;
-    right = base_present built.here.entries (inside_of node) built.right;
-    within = λ k lt. base_below draft.at k some lt;
+    body = base_present built.here.entries b base built.body;
+    right = base_present built.here.entries (inside_of b) base built.right;
+    within = λ k lt. base_below base draft.at k built.below lt;
   };
   as_many = refl;
 }
 
-keeps_base : (registers : List ℕ) (draft : Draft) → KeepsPresences registers draft draft (0 ∷ [])
-keeps_base registers draft cells some below all = (all, omega arith, base_each draft.at some)
+keeps_base : (base : ℕ) (registers : List ℕ) (draft : Draft) → KeepsPresences base registers draft draft (base ∷ [])
+keeps_base base registers draft cells some below all = (all, omega arith, base_each base draft.at some)
 
 -- ---- one step more
 
-module _ (types : List TypeDec) (variables : List Name) (registers : List ℕ) (c : Clock) (p : ClockStep) (presences : List ℕ) (old mid new : Draft) (last on value here : ℕ) where
+module _ (types : List TypeDec) (variables : List Name) (base : ℕ) (registers : List ℕ) (c : Clock) (p : ClockStep) (presences : List ℕ) (old mid new : Draft) (last on value here : ℕ) where
   builds_step : is_in p.name variables ≡ true → on ≡ slice_index registers (place_in p.name variables) → value ≡ tag_value types p.tag → last ≡ slice_index presences (length c) → IsAdded mid new (does.Flag last on value) here →
-      BuildsPresences types variables c registers old mid presences → BuildsPresences types variables (c ++ p ∷ []) registers old new (presences ++ here ∷ [])
-  builds_step among at is at_last added builds g node start same clock some built =
-      let step = last_of g node (c ++ p ∷ []) c p refl clock in
-      let m = builds g node start same step.before some built in
+      BuildsPresences types variables c base registers old mid presences → BuildsPresences types variables (c ++ p ∷ []) base registers old new (presences ++ here ∷ [])
+  builds_step among at is at_last added builds g node b start same body clock built =
+      let step = last_of g node b (c ++ p ∷ []) c p refl clock in
+      let m = builds g node b start same body step.before built in
       let many : length presences ≡ suc (length c) = m.as_many in
       let v = m.built.values (place_in p.name variables) p.name (named_at p.name variables among) in
-      let outer : Has m.built.here.entries (Here c (top_of node)) (In_values last) =
-      subst (λ (q : ℕ). Has m.built.here.entries (Here c (top_of node)) (In_values q)) (sym at_last)
-      (subst (λ (d : Clock). Has m.built.here.entries (Here d (top_of node)) (In_values (slice_index presences (length c)))) (take_all (length c) c (omega arith)) (m.present.body (length c) (omega arith))) in
-      let named : Has m.built.here.entries (Named p.name (top_of node)) (In_values on) = subst (λ (q : ℕ). Has m.built.here.entries (Named p.name (top_of node)) (In_values q)) (sym at) v.0 in
-      let flagged = adds_thing g start m.built.here m.built.here mid mid new (Here (c ++ p ∷ []) (top_of node)) (does.Flag last on value) here added m.built.leads (knows_same m.built.here) (omega arith)
-      (flag node c p (top_of node) step.place refl outer named step.tested step.clock (is ∙ ap (λ (ts : List TypeDec). tag_value ts p.tag) (sym same))) in
-      let seen = means_more g start flagged.after new (Here (c ++ p ∷ []) (inside_of node)) here flagged.leads flagged.within (here_under (c ++ p ∷ []) (top_of node) [] flagged.has) in
+      let outer : Has m.built.here.entries (Here c b) (In_values last) =
+      subst (λ (q : ℕ). Has m.built.here.entries (Here c b) (In_values q)) (sym at_last)
+      (subst (λ (d : Clock). Has m.built.here.entries (Here d b) (In_values (slice_index presences (length c)))) (take_all (length c) c (omega arith)) (m.present.body (length c) (omega arith))) in
+      let named : Has m.built.here.entries (Named p.name b) (In_values on) = subst (λ (q : ℕ). Has m.built.here.entries (Named p.name b) (In_values q)) (sym at) v.0 in
+      let flagged = adds_thing g start m.built.here m.built.here mid mid new (Here (c ++ p ∷ []) b) (does.Flag last on value) here added m.built.leads (knows_same m.built.here) (omega arith)
+      (flag node c p b step.place body outer named step.tested step.clock (is ∙ ap (λ (ts : List TypeDec). tag_value ts p.tag) (sym same))) in
+      let seen = means_more g start flagged.after new (Here (c ++ p ∷ []) (inside_of b)) here flagged.leads flagged.within (here_under (c ++ p ∷ []) b [] flagged.has) in
       let more : KnowsMore m.built.here seen.after = knows_on m.built.here flagged.after seen.after flagged.more seen.more in
-      let given : Supplied m.built.here.entries (top_of node) (inside_of node) c variables registers presences mid.at = record { body = m.built.values; right = m.built.read; present = m.present } in
-      let supplied = inner_supplied seen.after.entries (top_of node) (inside_of node) c p variables registers presences new.at here (omega arith)
-      (supplied_later m.built.here seen.after (top_of node) (inside_of node) c variables registers presences mid.at new.at flagged.longer more given) (seen.more.grows _ _ flagged.has) seen.has seen.within in
+      let given : Supplied m.built.here.entries b (inside_of b) c variables registers presences mid.at = record { body = m.built.values; right = m.built.read; present = m.present } in
+      let supplied = inner_supplied seen.after.entries b (inside_of b) c p variables registers presences new.at here (omega arith)
+      (supplied_later m.built.here seen.after b (inside_of b) c variables registers presences mid.at new.at flagged.longer more given) (seen.more.grows _ _ flagged.has) seen.has seen.within in
       record {
         built = record {
           here = seen.after;
           leads = seen.leads;
-          base = more.grows _ _ m.built.base;
+          below = omega (arith, m.built.below, m.built.leads.at, flagged.longer, seen.leads.at);
+          body = more.grows _ _ m.built.body;
           right = more.grows _ _ m.built.right;
           values = supplied.body;
           read = supplied.right;
@@ -118,7 +119,7 @@ module _ (types : List TypeDec) (variables : List Name) (registers : List ℕ) (
       }
 
   keeps_step : length registers ≡ length variables → is_in p.name variables ≡ true → on ≡ slice_index registers (place_in p.name variables) → last ≡ slice_index presences (length c) → length presences ≡ suc (length c) → IsAdded mid new (does.Flag last on value) here →
-      KeepsPresences registers old mid presences → KeepsPresences registers old new (presences ++ here ∷ [])
+      KeepsPresences base registers old mid presences → KeepsPresences base registers old new (presences ++ here ∷ [])
   keeps_step known among at at_last many added keeps cells some below all =
       let x = keeps cells some below all in
       let outer : last < mid.at = subst (λ (q : ℕ). q < mid.at) (sym at_last) (x.2 (length c) 0 (omega arith)) in
@@ -130,16 +131,16 @@ module _ (types : List TypeDec) (variables : List Name) (registers : List ℕ) (
 
 -- ---- the beginnings so far
 
-module _ (types : List TypeDec) (variables : List Name) (clock : Clock) (registers : List ℕ) (old : Draft) where
+module _ (types : List TypeDec) (variables : List Name) (clock : Clock) (base : ℕ) (registers : List ℕ) (old : Draft) where
   -- a presence for each beginning of at most so many steps
   pub record AreMade (now : Draft) (k : ℕ) (presences : List ℕ) (last : ℕ) : Type 0 where
-    pub builds : BuildsPresences types variables (take k clock) registers old now presences
-    pub within : KeepsPresences registers old now presences
+    pub builds : BuildsPresences types variables (take k clock) base registers old now presences
+    pub within : KeepsPresences base registers old now presences
     pub as_many : length presences ≡ suc k
     pub last_is : last ≡ slice_index presences k
 
-  pub none_made : AreMade old 0 (0 ∷ []) 0
-  none_made = record { builds = builds_base types variables registers old; within = keeps_base registers old; as_many = refl; last_is = refl }
+  pub none_made : AreMade old 0 (base ∷ []) base
+  none_made = record { builds = builds_base types variables base registers old; within = keeps_base base registers old; as_many = refl; last_is = refl }
 
   pub one_made : (now new : Draft) (k : ℕ) (presences : List ℕ) (p : ClockStep) (last on value here : ℕ) → k < length clock → p ≡ get_or clock k p → length registers ≡ length variables → is_in p.name variables ≡ true →
       on ≡ slice_index registers (place_in p.name variables) → value ≡ tag_value types p.tag → IsAdded now new (does.Flag last on value) here → AreMade now k presences last → AreMade new (k + 1) (presences ++ here ∷ []) here
@@ -149,15 +150,15 @@ module _ (types : List TypeDec) (variables : List Name) (clock : Clock) (registe
       let at_last : last ≡ slice_index presences (length (take k clock)) = made.last_is ∙ ap (slice_index presences) (sym steps) in
       let many : length presences ≡ k + 1 = omega (arith, made.as_many) in
       record {
-        builds = subst (λ (c : Clock). BuildsPresences types variables c registers old new (presences ++ here ∷ [])) (sym next)
-            (builds_step types variables registers (take k clock) p presences old now new last on value here among at tag at_last added made.builds);
-        within = keeps_step types variables registers (take k clock) p presences old now new last on value here known among at at_last (made.as_many ∙ ap suc (sym steps)) added made.within;
+        builds = subst (λ (c : Clock). BuildsPresences types variables c base registers old new (presences ++ here ∷ [])) (sym next)
+            (builds_step types variables base registers (take k clock) p presences old now new last on value here among at tag at_last added made.builds);
+        within = keeps_step types variables base registers (take k clock) p presences old now new last on value here known among at at_last (made.as_many ∙ ap suc (sym steps)) added made.within;
         as_many = longer_by_one presences here ∙ ap suc many;
         last_is = sym (ap (slice_index (presences ++ here ∷ [])) (sym many) ∙ get_or-append_seam presences here [] 0);
       }
 
-  pub all_made : (now : Draft) (k : ℕ) (presences : List ℕ) (last : ℕ) → length clock ≤ k → AreMade now k presences last → BuildsPresences types variables clock registers old now presences
-  all_made now k presences last le made = subst (λ (c : Clock). BuildsPresences types variables c registers old now presences) (take_all k clock le) made.builds
+  pub all_made : (now : Draft) (k : ℕ) (presences : List ℕ) (last : ℕ) → length clock ≤ k → AreMade now k presences last → BuildsPresences types variables clock base registers old now presences
+  all_made now k presences last le made = subst (λ (c : Clock). BuildsPresences types variables c base registers old now presences) (take_all k clock le) made.builds
 
   pub enough_made : (now : Draft) (k : ℕ) (presences : List ℕ) (last : ℕ) → k ≤ length clock → length clock ≤ k → AreMade now k presences last → length presences ≡ suc (length clock)
   enough_made now k presences last le above made = omega (arith, made.as_many)

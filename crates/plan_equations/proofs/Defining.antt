@@ -13,7 +13,7 @@ use Rattle.hept_ast.specs.declared.tree.CoreNode.{CoreNode}
 use Rattle.hept_ast.specs.declared.tree.CoreEquation.{CoreEquation}
 use Rattle.step_plans.specs.Things.{Thing, Here, Named, Part}
 use Rattle.step_plans.specs.Operations.{Register, In_values}
-use Rattle.step_plans.specs.Plans.{Ground, Entry, At, Has, newest, older, Means, defines, variable_under, quiet_top, quiet_equation, known, Progress, top_of}
+use Rattle.step_plans.specs.Plans.{Ground, Entry, At, Has, newest, older, Means, IsBodyOf, defines, variable_under, quiet_equation, known, Progress}
 use Rattle.step_plans.proofs.Making.{one_meaning_more}
 use Rattle.plan_expressions.specs.Building.{HaveRegisters}
 use Rattle.plan_expressions.specs.declared.draft.Draft.{Draft}
@@ -45,11 +45,11 @@ registers_more entries after s variables registers at later r x many le grows ha
           (subst (λ (q : ℕ). Has after (Named x s) (In_values q) × (q < later)) (sym e) (here, lt))
     ]
 
-named_by : (g : Ground) (node : CoreNode) (e : CoreEquation) (x : Name) (entries : List Entry) (h r : Register) → IsFound node e x → Has entries (Here e.clock.steps (top_of node)) h → Has entries (Part e.right e.clock.steps (inside_of node)) r →
-    Means g entries (Named x (top_of node)) r
-named_by g node e x entries h r f here right =
-    defines node x e (top_of node) h refl f.found f.left f.input here
-    (subst (λ (xs : List Name). Has entries (Part e.right e.clock.steps (Under (top_of node) xs)) r) (sym f.resets) right)
+named_by : (g : Ground) (node : CoreNode) (b : Scope) (e : CoreEquation) (x : Name) (entries : List Entry) (h r : Register) → IsBodyOf b node → IsFound node e x → Has entries (Here e.clock.steps b) h → Has entries (Part e.right e.clock.steps (inside_of b)) r →
+    Means g entries (Named x b) r
+named_by g node b e x entries h r body f here right =
+    defines node x e b h body f.found f.left f.input here
+    (subst (λ (xs : List Name). Has entries (Part e.right e.clock.steps (Under b xs)) r) (sym f.resets) right)
 
 -- the last beginning of a clock is the clock
 whole : (entries : List Entry) (s : Scope) (c : Clock) (r : Register) → Has entries (Here (take (length c) c) s) r → Has entries (Here c s) r
@@ -59,43 +59,44 @@ whole entries s c r h = subst (λ (d : Clock). Has entries (Here d s) r) (take_a
 pub at_last : (xs : List ℕ) (n m x : ℕ) → x ≡ get_or xs n x → n ≡ m → m < length xs → x ≡ slice_index xs m
 at_last xs n m x is same within = is ∙ ap (λ (k : ℕ). get_or xs k x) same ∙ get_or_default_zero xs m x within
 
-module _ (types : List TypeDec) (variables : List Name) (cell r : ℕ) (e : CoreEquation) (registers more presences : List ℕ) (old mid new : Draft) where
-  pub one_equation_more : length registers ≡ length variables → BuildsPresences types variables e.clock.steps registers old mid presences → EmitsRight types variables registers presences cell mid new e.right r → more ≡ registers ++ r ∷ [] →
-      BuildsEquation types variables cell e registers old more new (slice_index presences (length e.clock.steps))
-  one_equation_more many presents emits longer g node x start found same some cells ground from =
-      let p = presents g node start same ground.clock some from in
+module _ (types : List TypeDec) (variables : List Name) (cell base r : ℕ) (e : CoreEquation) (registers more presences : List ℕ) (old mid new : Draft) where
+  pub one_equation_more : length registers ≡ length variables → BuildsPresences types variables e.clock.steps base registers old mid presences → EmitsRight types variables registers presences cell mid new e.right r → more ≡ registers ++ r ∷ [] →
+      BuildsEquation types variables cell base e registers old more new (slice_index presences (length e.clock.steps))
+  one_equation_more many presents emits longer g node b x start found same body quiet cells ground from =
+      let p = presents g node b start same body ground.clock from in
       let c : Clock = e.clock.steps in
       let h : Register = In_values (slice_index presences (length c)) in
-      let in_body : Has p.built.here.entries (Here c (top_of node)) h = whole p.built.here.entries (top_of node) c h (p.present.body (length c) (omega (arith, p.as_many))) in
-      let in_right : Has p.built.here.entries (Here c (inside_of node)) h = whole p.built.here.entries (inside_of node) c h (p.present.right (length c) (omega (arith, p.as_many))) in
-      let m = emits g node (top_of node) (inside_of node) c h start p.built.here same (quiet_equation quiet_top) cells p.built.leads in_right (record { body = p.built.values; right = p.built.read; present = p.present }) ground.right in
+      let in_body : Has p.built.here.entries (Here c b) h = whole p.built.here.entries b c h (p.present.body (length c) (omega (arith, p.as_many))) in
+      let in_right : Has p.built.here.entries (Here c (inside_of b)) h = whole p.built.here.entries (inside_of b) c h (p.present.right (length c) (omega (arith, p.as_many))) in
+      let m = emits g node b (inside_of b) c h start p.built.here same (quiet_equation quiet) cells p.built.leads in_right (record { body = p.built.values; right = p.built.read; present = p.present }) ground.right in
       let lt : r < m.after.at = omega (arith, m.within, m.leads.at) in
-      let one : Progress = record { entries = At (Named x (top_of node)) (In_values r) ∷ m.after.entries; at = m.after.at; later = m.after.later; offered = m.after.offered } in
-      let two : Progress = record { entries = At (Named x (inside_of node)) (In_values r) ∷ one.entries; at = m.after.at; later = m.after.later; offered = m.after.offered } in
+      let one : Progress = record { entries = At (Named x b) (In_values r) ∷ m.after.entries; at = m.after.at; later = m.after.later; offered = m.after.offered } in
+      let two : Progress = record { entries = At (Named x (inside_of b)) (In_values r) ∷ one.entries; at = m.after.at; later = m.after.later; offered = m.after.offered } in
       let grows : (thing : Thing) (q : Register) → Has p.built.here.entries thing q → Has two.entries thing q = λ thing q a. older (older (m.more.grows thing q a)) in
       record {
         built = record {
           here = two;
           leads = record {
             makes = one_meaning_more g [] [] start one two new.actions.items
-                (one_meaning_more g [] [] start m.after one new.actions.items m.leads.makes (known (Named x (top_of node)) (In_values r) lt (named_by g node e x m.after.entries h (In_values r) found (m.more.grows _ _ in_body) m.has)))
-                (known (Named x (inside_of node)) (In_values r) lt (variable_under x (top_of node) [] newest));
+                (one_meaning_more g [] [] start m.after one new.actions.items m.leads.makes (known (Named x b) (In_values r) lt (named_by g node b e x m.after.entries h (In_values r) body found (m.more.grows _ _ in_body) m.has)))
+                (known (Named x (inside_of b)) (In_values r) lt (variable_under x b [] newest));
             at = m.leads.at;
           };
-          base = grows _ _ p.built.base;
+          below = omega (arith, p.built.below, m.longer);
+          body = grows _ _ p.built.body;
           right = grows _ _ p.built.right;
-          values = subst (λ (rs : List ℕ). HaveRegisters two.entries (top_of node) (variables ++ x ∷ []) rs new.at) (sym longer)
-              (registers_more p.built.here.entries two.entries (top_of node) variables registers mid.at new.at r x many m.longer grows p.built.values (older newest) m.within);
-          read = subst (λ (rs : List ℕ). HaveRegisters two.entries (inside_of node) (variables ++ x ∷ []) rs new.at) (sym longer)
-              (registers_more p.built.here.entries two.entries (inside_of node) variables registers mid.at new.at r x many m.longer grows p.built.read newest m.within);
+          values = subst (λ (rs : List ℕ). HaveRegisters two.entries b (variables ++ x ∷ []) rs new.at) (sym longer)
+              (registers_more p.built.here.entries two.entries b variables registers mid.at new.at r x many m.longer grows p.built.values (older newest) m.within);
+          read = subst (λ (rs : List ℕ). HaveRegisters two.entries (inside_of b) (variables ++ x ∷ []) rs new.at) (sym longer)
+              (registers_more p.built.here.entries two.entries (inside_of b) variables registers mid.at new.at r x many m.longer grows p.built.read newest m.within);
         };
         more = record { later = m.more.later ∙ p.more.later; grows = λ thing q a. grows thing q (p.more.grows thing q a) };
         longer = omega (arith, p.longer, m.longer);
         present = grows _ _ in_right;
-        below = omega (arith, p.present.within (length c) (omega (arith, p.as_many)), m.longer);
+        under = omega (arith, p.present.within (length c) (omega (arith, p.as_many)), m.longer);
       }
 
-  pub keeps_equation : (count : ℕ) → KeepsPresences registers old mid presences → KeepsCells count cell registers presences mid new r → more ≡ registers ++ r ∷ [] → length presences ≡ suc (length e.clock.steps) → KeepsEquation count cell registers old more new (slice_index presences (length e.clock.steps))
+  pub keeps_equation : (count : ℕ) → KeepsPresences base registers old mid presences → KeepsCells count cell registers presences mid new r → more ≡ registers ++ r ∷ [] → length presences ≡ suc (length e.clock.steps) → KeepsEquation count cell base registers old more new (slice_index presences (length e.clock.steps))
   keeps_equation count keeps_presences keeps longer as_many cells le some below all =
       let x = keeps_presences cells some below all in
       let y = keeps cells le (below_later registers old.at mid.at x.1 below) x.2 x.0 in

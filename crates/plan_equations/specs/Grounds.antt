@@ -1,9 +1,9 @@
--- What a node's plan is made over, from its text: cells of the equations in order, variables that clocks name, and merges.
-use Rattle.std.specs.Prelude.{List, [], ◌∷◌, ◌++◌, map}
+-- What a node's plan is made over, from its expanded text: cells of the equations in order, variables that clocks name, merges, and calls.
+use Rattle.std.specs.Prelude.{ℕ, zero, suc, List, [], ◌∷◌, ◌++◌, length, map, Option, Some, All, Contains}
 use Rattle.std.specs.List.{flat_map}
 use Rattle.hept_ast.specs.Parts.{inside}
 use Rattle.hept_ast.specs.Texts.{Name, const_value}
-use Rattle.hept_ast.specs.Scopes.{Clock, Scope, Under}
+use Rattle.hept_ast.specs.Scopes.{Clock, Text, Lowered, Scope, Called, Under}
 use Rattle.hept_ast.specs.declared.tree.TypeDec.{TypeDec}
 use Rattle.hept_ast.specs.declared.tree.Core.{Core}
 use Rattle.hept_ast.specs.declared.tree.CoreNode.{CoreNode}
@@ -13,7 +13,7 @@ use Rattle.hept_ast.specs.declared.tree.MergeBranch.{MergeBranch}
 use Rattle.hept_ast.specs.declared.tree.Form.{Form, out-Form}
 use Rattle.hept_ast.specs.declared.tree.Form.TheOpen.{Form-F}
 use Rattle.step_plans.specs.Things.{Memory, Value_of, Presence_of}
-use Rattle.step_plans.specs.Plans.{Ground, Tested, Tests, Covering, Covers, top_of}
+use Rattle.step_plans.specs.Plans.{Ground, Tested, Tests, Covering, Covers, Calling, Calls, top_of}
 use Rattle.step_plans.specs.Memories.{nodes_of}
 
 -- ---- cells
@@ -30,14 +30,25 @@ right_memories types (Form-F.Pre a) c s = Value_of a c s 0 ∷ []
 right_memories types (Form-F.Arrow a b) c s = Presence_of c s ∷ []
 right_memories types _ c s = []
 
-abbrev pub right_scope : CoreNode → CoreEquation → Scope
-right_scope node e = Under (top_of node) e.resets
+-- ---- bodies
 
-abbrev pub equation_memories : List TypeDec → CoreNode → CoreEquation → List Memory
-equation_memories types node e = right_memories types (out-Form e.right.form) e.clock.steps (right_scope node e)
+-- a body of the expanded text: a node, and where it stands
+pub record Body : Type 0 where
+  pub node : CoreNode
+  pub scope : Scope
 
-abbrev pub memories_of : List TypeDec → CoreNode → List CoreEquation → List Memory
-memories_of types node es = flat_map (equation_memories types node) es
+-- where the right side of an equation of a body stands
+abbrev pub right_scope : Scope → CoreEquation → Scope
+right_scope b e = Under b e.resets
+
+abbrev pub equation_memories : List TypeDec → Scope → CoreEquation → List Memory
+equation_memories types b e = right_memories types (out-Form e.right.form) e.clock.steps (right_scope b e)
+
+abbrev pub memories_of : List TypeDec → Scope → List CoreEquation → List Memory
+memories_of types b es = flat_map (equation_memories types b) es
+
+abbrev pub body_memories : List TypeDec → Body → List Memory
+body_memories types body = memories_of types body.scope body.node.equations
 
 -- ---- what clocks name
 
@@ -49,16 +60,68 @@ merged_name _ = []
 abbrev pub clock_names : CoreEquation → List Name
 clock_names e = map (λ p. p.name) e.clock.steps ++ flat_map (λ a. merged_name (out-Form a.form)) (inside e.right)
 
-abbrev pub tested_in : CoreNode → List Tested
-tested_in node = map (λ x. Tests node x (top_of node)) (flat_map clock_names node.equations)
+abbrev pub tested_in : Body → List Tested
+tested_in body = map (λ x. Tests body.node x body.scope) (flat_map clock_names body.node.equations)
 
 abbrev pub merge_of : Scope → Form-F Form Expr MergeBranch → List Covering
 merge_of s (Form-F.Merge x branches) = Covers x s branches ∷ []
 merge_of s _ = []
 
-abbrev pub covered_in : CoreNode → List Covering
-covered_in node = flat_map (λ e. flat_map (λ a. merge_of (right_scope node e) (out-Form a.form)) (inside e.right)) node.equations
+abbrev pub covered_in : Body → List Covering
+covered_in body = flat_map (λ e. flat_map (λ a. merge_of (right_scope body.scope e) (out-Form a.form)) (inside e.right)) body.node.equations
 
--- of a node without resets and calls, whose variables are of plain type
+-- ---- calls, which stand at the top of right sides
+
+abbrev pub calling_of : Scope → CoreEquation → Form-F Form Expr MergeBranch → List Calling
+calling_of b e (Form-F.Call f args) = Calls e.clock.steps (right_scope b e) e.right.place.0 ∷ []
+calling_of b e _ = []
+
+abbrev pub calls_in : Body → List Calling
+calls_in body = flat_map (λ e. calling_of body.scope e (out-Form e.right.form)) body.node.equations
+
+-- where the body of a called node stands
+abbrev pub call_scope : Scope → CoreEquation → List Expr → CoreNode → Scope
+call_scope b e args callee = Called (right_scope b e) e.clock.steps e.right.place.0 args (Lowered callee)
+
+abbrev pub text_bodies : (CoreNode → Scope → List Body) → Scope → CoreEquation → List Expr → Option Text → List Body
+text_bodies go b e args (Some (Lowered callee)) = go callee (call_scope b e args callee)
+text_bodies go b e args _ = []
+
+abbrev pub form_bodies : (CoreNode → Scope → List Body) → (Name → Option Text) → Scope → CoreEquation → Form-F Form Expr MergeBranch → List Body
+form_bodies go nodes b e (Form-F.Call f args) = text_bodies go b e args (nodes f)
+form_bodies go nodes b e _ = []
+
+abbrev pub called_bodies : (CoreNode → Scope → List Body) → (Name → Option Text) → Scope → CoreEquation → List Body
+called_bodies go nodes b e = form_bodies go nodes b e (out-Form e.right.form)
+
+-- the bodies of a node's expanded text, each before those of the nodes that it calls, where no chain of calls has more nodes than the depth
+unfoldable pub bodies : Core → (depth : ℕ) → CoreNode → Scope → List Body
+bodies core zero node b = []
+bodies core (suc depth) node b = record { node = node; scope = b } ∷ flat_map (called_bodies (bodies core depth) (nodes_of core) b) node.equations
+
+-- ---- grounds
+
+-- of these bodies, without resets and async calls, whose variables are of plain type
+abbrev pub ground_over : Core → List Body → Ground
+ground_over core all = record {
+  types = core.types;
+  nodes = nodes_of core;
+  tested = flat_map tested_in all;
+  covered = flat_map covered_in all;
+  calls = flat_map calls_in all;
+  memories = flat_map (body_memories core.types) all;
+  future_memories = [];
+}
+
+-- of a node's whole expanded text
+abbrev pub bodies_of : Core → CoreNode → List Body
+bodies_of core node = bodies core (length core.nodes) node (top_of node)
+
 abbrev pub ground_of : Core → CoreNode → Ground
-ground_of core node = record { types = core.types; nodes = nodes_of core; tested = tested_in node; covered = covered_in node; calls = []; memories = memories_of core.types node node.equations; future_memories = [] }
+ground_of core node = ground_over core (bodies_of core node)
+
+-- a ground that has what a body asks of it
+pub record HasBody (g : Ground) (body : Body) : Type 0 where
+  pub tested : All (Contains g.tested) (tested_in body)
+  pub covered : All (Contains g.covered) (covered_in body)
+  pub calls : All (Contains g.calls) (calls_in body)

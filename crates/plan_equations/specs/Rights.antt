@@ -33,6 +33,7 @@ abbrev pub GroundedForm : Ground → CoreNode → (b s : Scope) → Clock → Fo
 GroundedForm g node b s c (Form-F.Fby a d) e = Grounded g node b s c d
 GroundedForm g node b s c (Form-F.Pre a) e = Grounded g node b s c a
 GroundedForm g node b s c (Form-F.Arrow a d) e = Grounded g node b s c a × Grounded g node b s c d
+GroundedForm g node b s c (Form-F.Call f args) e = Unit {0}
 GroundedForm g node b s c _ e = Grounded g node b s c e
 
 abbrev pub GroundedRight : Ground → CoreNode → (b s : Scope) → Clock → Expr → Type 0

@@ -10,10 +10,11 @@ use hept_ast::{CoreEquation, Memory, Name, TypeDec};
 use plan_expressions::Draft;
 use std::alloc::{AllocError, Global};
 
-/// Adds the instructions of an equation, whose cells begin at this number, and the number of its variable's
-/// value. It answers the presence of its clock.
+/// Adds the instructions of an equation of a body, whose cells begin at this number, and the number of its
+/// variable's value. `base` is the presence of the body's base clock. It answers the presence of the equation's.
 pub fn emit_equation(
     alloc: Global,
+    base: u32,
     e: &CoreEquation,
     types: &[TypeDec],
     variables: &[Name],
@@ -25,12 +26,13 @@ pub fn emit_equation(
     requires among { AreKnown variables.now e.now.clock.steps }
     requires right { IsRight types.now variables.now (suc (length e.now.clock.steps)) e.now.right }
     requires cells { cell + 1 < 2 ^ 32 }
-    ensures builds { IfOk result (BuildsEquation types.now variables.now cell e.now registers.old.items draft.old registers.new.items draft.new) }
+    ensures builds { IfOk result (BuildsEquation types.now variables.now cell base e.now registers.old.items draft.old registers.new.items draft.new) }
     ensures one_more { OnOk result (length registers.new.items ≡ suc (length registers.old.items)) }
-    ensures within { IfOk result (KeepsEquation (right_cells (out-Form e.now.right.form)) cell registers.old.items draft.old registers.new.items draft.new) }
+    ensures within { IfOk result (KeepsEquation (right_cells (out-Form e.now.right.form)) cell base registers.old.items draft.old registers.new.items draft.new) }
 {
     let presences = emit_presences(
         alloc,
+        base,
         e.clock.steps.as_slice(),
         types,
         variables,
