@@ -1,0 +1,10 @@
+pub mod Lists
+pub mod Named
+pub mod Emitted
+pub mod Outputs
+pub mod Counted
+pub mod Splitting
+pub mod Expanding
+pub mod Calling
+pub mod CalledNext
+pub mod Valuing

@@ -1,0 +1,4 @@
+pub mod Buildable
+pub mod Expansions
+pub mod Arguments
+pub mod Valued
