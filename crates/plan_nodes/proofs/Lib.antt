@@ -1,7 +1,9 @@
 mod Starting
-mod Planned
 pub mod Keeping
 pub mod Adding
 pub mod StoredForms
-mod Counted
-mod Valued
+pub mod Equations
+pub mod Lists
+pub mod Bodies
+mod Expanded
+mod Planned

@@ -1,6 +1,7 @@
 -- The inputs have values when an instant begins.
-use Rattle.std.proofs.Common.{◌≡◌, ℕ, zero, suc, ◌+◌, ◌<◌, List, [], ◌∷◌, length, Some, refl, sym, subst, ◌∙◌, arith}
+use Rattle.std.proofs.Common.{◌≡◌, ℕ, zero, suc, ◌+◌, ◌<◌, List, [], ◌∷◌, All, length, get_or, Some, refl, sym, subst, ◌∙◌, arith}
 use Rattle.std.specs.Prelude.{slice_get, slice_index}
+use Rattle.std.proofs.lemmas.Grind.{get_or_default_zero}
 use Rattle.std.proofs.lemmas.List.{length-map}
 use Rattle.std.proofs.lemmas.Option.{slice_get_within}
 use Rattle.hept_ast.specs.Scopes.{Scope}
@@ -33,12 +34,12 @@ abbrev Stand : List Entry → Scope → List Name → (from at : ℕ) → Type 0
 Stand entries s xs from at = (k : ℕ) (x : Name) → slice_get xs k ≡ Some x → Has entries (Named x s) (In_values (from + k)) × (from + k < at)
 
 -- the same names under no resets
-record AreSeen (g : Ground) (node : CoreNode) (p : Progress) (xs : List Name) (from : ℕ) : Type 0 where
+record AreSeen (g : Ground) (b : Scope) (p : Progress) (xs : List Name) (from : ℕ) : Type 0 where
   after : Progress
   makes : MakesAll g [] [] p [] after
   at : after.at ≡ p.at
   more : KnowsMore p after
-  seen : Stand after.entries (inside_of node) xs from p.at
+  seen : Stand after.entries (inside_of b) xs from p.at
 
 stand_next : (entries : List Entry) (s : Scope) (y : Name) (xs : List Name) (from at : ℕ) → Stand entries s (y ∷ xs) from at → Stand entries s xs (suc from) at
 stand_next entries s y xs from at h k x e =
@@ -54,22 +55,22 @@ stand_more entries s y xs from at h lt rest (suc k) x e =
     let next : suc from + k ≡ from + suc k = omega arith in
     subst (λ (r : ℕ). Has entries (Named x s) (In_values r) × (r < at)) next (rest k x e)
 
-see_names : (g : Ground) (node : CoreNode) (p : Progress) (xs : List Name) (from : ℕ) → Stand p.entries (top_of node) xs from p.at → AreSeen g node p xs from
-see_names g node p [] from h = record { after = p; makes = made; at = refl; more = knows_same p; seen = λ k x e. absurd (cc) }
-see_names g node p (y ∷ xs) from h =
+see_names : (g : Ground) (b : Scope) (p : Progress) (xs : List Name) (from : ℕ) → Stand p.entries b xs from p.at → AreSeen g b p xs from
+see_names g b p [] from h = record { after = p; makes = made; at = refl; more = knows_same p; seen = λ k x e. absurd (cc) }
+see_names g b p (y ∷ xs) from h =
     let first = h 0 y refl in
     let here : from + 0 ≡ from = omega arith in
     let lt : from < p.at = omega (arith, first.1) in
-    let named : Has p.entries (Named y (top_of node)) (In_values from) = subst (λ (r : ℕ). Has p.entries (Named y (top_of node)) (In_values r)) here first.0 in
-    let q : Progress = record { entries = At (Named y (inside_of node)) (In_values from) ∷ p.entries; at = p.at; later = p.later; offered = p.offered } in
+    let named : Has p.entries (Named y b) (In_values from) = subst (λ (r : ℕ). Has p.entries (Named y b) (In_values r)) here first.0 in
+    let q : Progress = record { entries = At (Named y (inside_of b)) (In_values from) ∷ p.entries; at = p.at; later = p.later; offered = p.offered } in
     let more : KnowsMore p q = record { later = refl; grows = λ thing r x. older x } in
-    let rest : AreSeen g node q xs (suc from) = see_names g node q xs (suc from) (stand_next q.entries (top_of node) y xs from q.at (λ k x e. (older (h k x e).0, (h k x e).1))) in
+    let rest : AreSeen g b q xs (suc from) = see_names g b q xs (suc from) (stand_next q.entries b y xs from q.at (λ k x e. (older (h k x e).0, (h k x e).1))) in
     record {
       after = rest.after;
-      makes = also (known (Named y (inside_of node)) (In_values from) lt (variable_under y (top_of node) [] named)) rest.makes;
+      makes = also (known (Named y (inside_of b)) (In_values from) lt (variable_under y b [] named)) rest.makes;
       at = rest.at;
       more = knows_on p q rest.after more rest.more;
-      seen = stand_more rest.after.entries (inside_of node) y xs from p.at (rest.more.grows _ _ newest) lt rest.seen;
+      seen = stand_more rest.after.entries (inside_of b) y xs from p.at (rest.more.grows _ _ newest) lt rest.seen;
     }
 
 -- the inputs' values have these numbers
@@ -82,29 +83,37 @@ have_registers entries s xs registers at are h k x e =
     subst (λ (r : ℕ). Has entries (Named x s) (In_values r) × (r < at)) next (h k x e)
 
 pub built_at_start : (g : Ground) (node : CoreNode) (registers : List ℕ) (draft : Draft) → AreInputRegisters (length node.inputs) registers → draft.actions.items ≡ [] → draft.at ≡ suc (length node.inputs) →
-    IsBuilt g node (start_of node 0) draft (names node.inputs) registers
+    IsBuilt g (top_of node) 0 (start_of node 0) draft (names node.inputs) registers
 built_at_start g node registers draft are none at =
+    let b : Scope = top_of node in
     let p : Progress = start_of node 0 in
     let many : length (names node.inputs) ≡ length node.inputs = length-map node.inputs (λ (d : Decl). d.name) in
     let numbers : AreInputRegisters (length (names node.inputs)) registers = subst (λ (n : ℕ). AreInputRegisters n registers) (sym many) are in
-    let stand : Stand p.entries (top_of node) (names node.inputs) 1 p.at = λ k x e.
+    let stand : Stand p.entries b (names node.inputs) 1 p.at = λ k x e.
     let within : k < length (names node.inputs) = slice_get_within (names node.inputs) k x e in
-    (older (input_has (top_of node) (names node.inputs) 1 0 k x e), omega (arith, within, many)) in
-    let q : Progress = record { entries = At (Here [] (inside_of node)) (In_values 0) ∷ p.entries; at = p.at; later = p.later; offered = p.offered } in
+    (older (input_has b (names node.inputs) 1 0 k x e), omega (arith, within, many)) in
+    let q : Progress = record { entries = At (Here [] (inside_of b)) (In_values 0) ∷ p.entries; at = p.at; later = p.later; offered = p.offered } in
     let positive : 0 < p.at = omega arith in
     let more : KnowsMore p q = record { later = refl; grows = λ thing r x. older x } in
-    let rest : AreSeen g node q (names node.inputs) 1 = see_names g node q (names node.inputs) 1 (λ k x e. (older (stand k x e).0, (stand k x e).1)) in
+    let rest : AreSeen g b q (names node.inputs) 1 = see_names g b q (names node.inputs) 1 (λ k x e. (older (stand k x e).0, (stand k x e).1)) in
     let all : KnowsMore p rest.after = knows_on p q rest.after more rest.more in
     let same : draft.at ≡ p.at = at in
     record {
       here = rest.after;
       leads = record {
-        makes = subst (λ (actions : List Action). MakesAll g [] [] p actions rest.after) (sym none) (also (known (Here [] (inside_of node)) (In_values 0) positive (here_under [] (top_of node) [] newest)) rest.makes);
+        makes = subst (λ (actions : List Action). MakesAll g [] [] p actions rest.after) (sym none) (also (known (Here [] (inside_of b)) (In_values 0) positive (here_under [] b [] newest)) rest.makes);
         at = rest.at ∙ sym same;
       };
-      base = all.grows _ _ newest;
+      below = omega (arith, at);
+      body = all.grows _ _ newest;
       right = rest.more.grows _ _ newest;
-      values = have_registers rest.after.entries (top_of node) (names node.inputs) registers draft.at numbers
-          (λ k x e. (all.grows _ _ (stand k x e).0, omega (arith, (stand k x e).1, same)));
-      read = have_registers rest.after.entries (inside_of node) (names node.inputs) registers draft.at numbers (λ k x e. ((rest.seen k x e).0, omega (arith, (rest.seen k x e).1, same)));
+      values = have_registers rest.after.entries b (names node.inputs) registers draft.at numbers (λ k x e. (all.grows _ _ (stand k x e).0, omega (arith, (stand k x e).1, same)));
+      read = have_registers rest.after.entries (inside_of b) (names node.inputs) registers draft.at numbers (λ k x e. ((rest.seen k x e).0, omega (arith, (rest.seen k x e).1, same)));
     }
+
+-- they are there when the instant begins
+pub inputs_below : (registers : List ℕ) (inputs at : ℕ) → length registers ≡ inputs → AreInputRegisters inputs registers → at ≡ suc inputs → All (λ q. q < at) registers
+inputs_below registers inputs at many are e k d lt =
+    let within : k < inputs = omega (arith, lt, many) in
+    let here : get_or registers k d ≡ suc k = get_or_default_zero registers k d lt ∙ are k within in
+    omega (arith, here, within, e)

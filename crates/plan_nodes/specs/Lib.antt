@@ -1,4 +1,3 @@
-pub mod Nodes
 pub mod Built
 pub mod Stores
-pub mod Bodies
+pub mod Texts

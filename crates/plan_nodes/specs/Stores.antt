@@ -1,20 +1,16 @@
--- What is added for some cells of a node: instructions, stores and first contents.
-use Rattle.std.specs.Prelude.{◌≡◌, ℕ, ◌<◌, ◌≤◌, List, [], ◌∷◌, ◌++◌, All, Some, length, map, slice_get, slice_index}
-use Rattle.hept_ast.specs.Scopes.{Clock}
+-- One cell more, and the equations whose cells have stores.
+use Rattle.std.specs.Prelude.{◌≡◌, ℕ, ◌<◌, List, [], ◌∷◌, ◌++◌, Some, length, slice_get, slice_index}
 use Rattle.hept_ast.specs.Texts.{Name}
+use Rattle.hept_ast.specs.Scopes.{Clock}
 use Rattle.hept_ast.specs.declared.tree.TypeDec.{TypeDec}
-use Rattle.hept_ast.specs.declared.tree.CoreNode.{CoreNode}
 use Rattle.hept_ast.specs.declared.tree.CoreEquation.{CoreEquation}
 use Rattle.hept_ast.specs.declared.tree.Const.{Const}
 use Rattle.hept_ast.specs.declared.tree.Expr.{Expr}
 use Rattle.hept_ast.specs.declared.tree.Form.TheVariants as form
-use Rattle.step_plans.specs.Things.{Memory, initial_of}
-use Rattle.step_plans.specs.Plans.{Ground, Progress}
 use Rattle.step_plans.specs.declared.instruction.Store.{Store}
-use Rattle.step_engine.specs.Running.{IsStoreWithin}
-use Rattle.plan_expressions.specs.Building.{AreActionsWithin}
-use Rattle.plan_expressions.specs.declared.draft.Draft.{Draft}
-use Rattle.plan_nodes.specs.Built.{AreKept}
+use Rattle.plan_equations.specs.Rights.{IsRight}
+use Rattle.plan_bodies.specs.Buildable.{IsKeepable}
+use Rattle.plan_bodies.specs.declared.bodies.PlacedBody.{PlacedBody}
 use Rattle.plan_nodes.specs.declared.stores.Cells.{Cells}
 
 -- a `fby` starts with a constant or a variable
@@ -27,19 +23,22 @@ pub record IsPushed (old new : Cells) (store : Store) (first : ℕ) : Type 0 whe
   pub stores : new.stores.items ≡ old.stores.items ++ store ∷ []
   pub initial : new.initial.items ≡ old.initial.items ++ first ∷ []
 
--- an equation of the node stands on this clock, and this is its presence
-pub record IsPresence (node : CoreNode) (presences : List ℕ) (c : Clock) (here : ℕ) : Type 0 where
+-- an equation of the body stands on this clock, and this is its presence
+pub record IsPresence (placed : PlacedBody) (c : Clock) (here : ℕ) : Type 0 where
   pub place : ℕ
   pub equation : CoreEquation
-  pub at : slice_get node.equations place ≡ Some equation
+  pub at : slice_get placed.node.now.equations place ≡ Some equation
   pub clock : equation.clock.steps ≡ c
-  pub there : place < length presences
-  pub presence : slice_index presences place ≡ here
+  pub there : place < length placed.presences.items
+  pub presence : slice_index placed.presences.items place ≡ here
 
--- the cells of these memories come after those that are there
-pub record AddsStores (types : List TypeDec) (node : CoreNode) (variables : List Name) (registers presences : List ℕ) (memories : List Memory) (old : Draft) (before : Cells) (new : Draft) (after : Cells) : Type 0 where
-  pub keeps : (g : Ground) (start : Progress) (done : List Memory) → g.types ≡ types → AreKept g node start old variables registers presences done before.stores.items →
-      AreKept g node start new variables registers presences (done ++ memories) after.stores.items
-  pub initial : after.initial.items ≡ before.initial.items ++ map initial_of memories
-  pub within : (cells : ℕ) → All (λ q. q < old.at) registers → All (λ q. q < old.at) presences → AreActionsWithin cells old → All (IsStoreWithin old.at) before.stores.items →
-      AreActionsWithin cells new × (old.at ≤ new.at) × All (IsStoreWithin new.at) after.stores.items
+-- a right side, or a call
+pub data IsRightOrCall (types : List TypeDec) : Expr → Type 0 where
+  a_right : {e : Expr} (known : List Name) (presences : ℕ) → IsRight types known presences e → IsRightOrCall types e
+  a_call : {e : Expr} (f : Name) (args : List Expr) → e.form ≡ form.Call f args → IsRightOrCall types e
+
+-- an equation without resets, whose cells take what is computed from variables
+pub record IsStorable (types : List TypeDec) (variables : List Name) (e : CoreEquation) : Type 0 where
+  pub right : IsRightOrCall types e.right
+  pub kept : IsKeepable types variables e.right
+  pub resets : e.resets ≡ []

@@ -1,11 +1,8 @@
 //! The plan of a node, built from its text: the values of its variables, the stores of its cells and its outputs.
 #![tactic(auto)]
 
-mod cells;
-mod names;
 mod nodes;
 mod registers;
 mod stores;
-mod values;
 
 pub use nodes::build_node;

@@ -1,76 +1,61 @@
 //! The plan of a node.
 ghost use Rattle.std.specs.Prelude.{◌≡◌, ◌<◌, ◌+◌, ◌^◌, [], IfOk, length};
-ghost use Rattle.hept_ast.specs.declared.tree.Core.{Core};
 ghost use Rattle.step_plans.specs.Plans.{IsPlanOf};
 ghost use Rattle.plan_equations.specs.Grounds.{ground_of};
+ghost use Rattle.plan_bodies.specs.Buildable.{IsBuildable};
 ghost use Rattle.node_memory.specs.Standing.{IsSound};
-ghost use Rattle.plan_nodes.specs.Nodes.{IsBuildable, variables_of};
-ghost use Rattle.plan_nodes.specs.Bodies.{BuildsBody, IsBodyWithin, KnowsContents};
+ghost use Rattle.plan_nodes.specs.Texts.{BuildsText, IsTextWithin};
 
-use crate::names::variables;
-use crate::registers::{input_registers, output_registers};
+use crate::registers::input_registers;
 use crate::stores::{Cells, add_stores};
-use crate::values::add_values;
-use hept_ast::{CoreNode, Memory, Name, TypeDec};
+use hept_ast::{Core, CoreNode, Memory};
+use plan_bodies::{Expansion, add_body};
 use plan_expressions::Draft;
 use std::alloc::Global;
 use step_plans::NodePlan;
 
-/// What is built of a node's equations.
+/// What is built of a node's expanded text.
 #[derive(Drop)]
-pub(crate) struct Body {
+pub(crate) struct BuiltText {
     pub(crate) draft: Draft,
     pub(crate) cells: Cells,
-    /// Of each variable the number of its value.
-    pub(crate) registers: Vec<u32>,
-    /// Of each equation the presence of its clock.
-    pub(crate) presences: Vec<u32>,
+    /// The values of the outputs.
+    pub(crate) outputs: Vec<u32>,
 }
 
-fn build_body(
-    alloc: Global,
-    types: &[TypeDec],
-    node: &CoreNode,
-    inputs: u32,
-    variables: &[Name],
-) -> Result<Body, Memory>
-    requires buildable { IsBuildable types.now node.now }
+/// The values of all bodies, and then the stores of their cells. Value 0 is the presence of the base clock.
+fn build_text(alloc: Global, core: &Core, node: &CoreNode, inputs: u32) -> Result<BuiltText, Memory>
+    requires buildable { IsBuildable core.now (length core.now.nodes) node.now }
     requires inputs { inputs ≡ length node.now.inputs }
     requires few { inputs + 1 < 2 ^ 32 }
-    requires variables { variables.now ≡ variables_of node.now }
-    ensures builds { IfOk result (BuildsBody types.now node.now) }
-    ensures contents { IfOk result (KnowsContents types.now node.now) }
-    ensures within { IfOk result (IsBodyWithin inputs) }
-    ensures known { IfOk result (λ b. length b.registers.items ≡ length variables.now) }
+    ensures builds { IfOk result (BuildsText core.now node.now) }
+    ensures within { IfOk result (IsTextWithin inputs) }
 {
-    let mut registers = input_registers(alloc, inputs)?;
+    let depth = core.nodes.len();
+    let registers = input_registers(alloc, inputs)?;
     let mut draft = Draft {
         actions: Vec::new(alloc),
         at: inputs + 1,
     };
-    let presences = add_values(alloc, node, types, variables, &mut registers, &mut draft)?;
-    let cells = add_stores(
-        alloc,
-        node,
-        types,
-        variables,
-        registers.as_slice(),
-        presences.as_slice(),
-        &mut draft,
-    )?;
-    Ok(Body {
+    let expansion = add_body(alloc, core, node, depth, 0, registers, 0, &mut draft)?;
+    let Expansion {
+        bodies,
+        outputs,
+        ..
+    } = expansion;
+    let cells = add_stores(alloc, core, bodies.as_slice(), &mut draft)?;
+    Ok(BuiltText {
         draft,
         cells,
-        registers,
-        presences,
+        outputs,
     })
 }
 
-/// The plan of a node of equations without resets and calls. It fails only for
-/// want of memory, which more than 2^32 - 1 values or cells are too.
-pub fn build_node(alloc: Global, types: &[TypeDec], node: &CoreNode) -> Result<NodePlan, Memory>
-    requires { IsBuildable types.now node.now }
-    ensures plan { (core : Core) → core.types ≡ types.now → IfOk result (IsPlanOf (ground_of core node.now) [] node.now) }
+/// The plan of a node of equations without resets, in which the nodes that it calls are expanded; it makes no
+/// async call. It fails only for want of memory, which more than 2^32 - 1 values or cells are too.
+pub fn build_node(alloc: Global, core: &Core, node: &CoreNode) -> Result<NodePlan, Memory>
+    requires { IsBuildable core.now (length core.now.nodes) node.now }
+    ensures plan { IfOk result (IsPlanOf (ground_of core.now node.now) [] node.now) }
     ensures sound { IfOk result IsSound }
     ensures alone { IfOk result (λ plan. plan.offerings.items ≡ []) }
 {
@@ -79,20 +64,12 @@ pub fn build_node(alloc: Global, types: &[TypeDec], node: &CoreNode) -> Result<N
         return Err(Memory);
     }
     let inputs = count as u32;
-    let names = variables(alloc, node)?;
-    let body = build_body(alloc, types, node, inputs, names.as_slice())?;
-    let Body {
+    let text = build_text(alloc, core, node, inputs)?;
+    let BuiltText {
         draft,
         cells,
-        registers,
-        ..
-    } = body;
-    let outputs = output_registers(
-        alloc,
-        node.outputs.as_slice(),
-        names.as_slice(),
-        registers.as_slice(),
-    )?;
+        outputs,
+    } = text;
     Ok(NodePlan {
         inputs,
         actions: draft.actions,

@@ -1,9 +1,7 @@
-//! The numbers of the values that inputs and outputs are.
-ghost use Rattle.std.specs.Prelude.{◌≡◌, ◌<◌, ◌+◌, ◌^◌, ℕ, suc, true, All, IfOk, length, map, slice_index};
-ghost use Rattle.hept_ast.specs.Texts.{is_in, names, place_in};
+//! The numbers of the values that inputs are.
+ghost use Rattle.std.specs.Prelude.{◌≡◌, ◌<◌, ◌+◌, ◌^◌, ℕ, suc, IfOk, length, slice_index};
 
-use hept_ast::{Decl, Memory, Name};
-use plan_expressions::position;
+use hept_ast::Memory;
 use std::alloc::{AllocError, Global};
 
 /// The values of the inputs come after value 0.
@@ -17,23 +15,4 @@ pub(crate) fn input_registers(alloc: Global, inputs: u32) -> Result<Vec<u32>, Me
         registers.push(k + 1).map_err(AllocError::from)?;
     }
     Ok(registers)
-}
-
-/// The values of the outputs.
-pub(crate) fn output_registers(
-    alloc: Global,
-    outputs: &[Decl],
-    variables: &[Name],
-    registers: &[u32],
-) -> Result<Vec<u32>, Memory>
-    requires known { length registers.now ≡ length variables.now }
-    requires among { All (λ x. is_in x variables.now ≡ true) (names outputs.now) }
-    ensures { IfOk result (λ r. r.items ≡ map (λ d. slice_index registers.now (place_in d.name variables.now)) outputs.now) }
-{
-    let mut numbers = Vec::new(alloc);
-    for output in outputs {
-        let register = registers[position(variables, &output.name)];
-        numbers.push(register).map_err(AllocError::from)?;
-    }
-    Ok(numbers)
 }

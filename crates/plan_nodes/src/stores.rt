@@ -1,26 +1,25 @@
-//! The stores of a node's cells, and their first contents.
-ghost use Rattle.std.specs.Prelude.{◌≡◌, ℕ, [], ◌∷◌, List, All, IfOk, OnOk, length, map};
+//! The stores of the cells of a node's expanded text, and their first contents.
+ghost use Rattle.std.specs.Prelude.{◌≡◌, [], ◌∷◌, List, All, IfOk, OnOk};
 ghost use Rattle.hept_ast.specs.Scopes.{Clock};
-ghost use Rattle.hept_ast.specs.Texts.{Name, names};
-ghost use Rattle.hept_ast.specs.declared.tree.CoreNode.{CoreNode};
 ghost use Rattle.hept_ast.specs.declared.tree.Form.{out-Form};
 ghost use Rattle.hept_ast.specs.declared.tree.TypeDec.{TypeDec};
 ghost use Rattle.plan_expressions.specs.Computable.{Computable};
 ghost use Rattle.plan_expressions.specs.declared.draft.Draft.{Draft};
-ghost use Rattle.plan_equations.specs.Equations.{IsFound, inside_of};
-ghost use Rattle.plan_equations.specs.Grounds.{equation_memories, fby_memories, memories_of};
-ghost use Rattle.plan_equations.specs.Rights.{IsRight};
-ghost use Rattle.step_plans.specs.Things.{Presence_of, Value_of, initial_of};
-ghost use Rattle.plan_nodes.specs.Nodes.{AreBuildable, IsKeepable};
-ghost use Rattle.plan_nodes.specs.Built.{BuildsStores, KeepsStores};
-ghost use Rattle.plan_nodes.specs.Stores.{AddsStores, IsPresence, IsStart};
+ghost use Rattle.plan_equations.specs.Equations.{inside_of};
+ghost use Rattle.plan_equations.specs.Grounds.{Body, body_memories, equation_memories, fby_memories};
+ghost use Rattle.plan_bodies.specs.Expansions.{IsWhole};
+ghost use Rattle.plan_bodies.specs.declared.bodies.PlacedBody.{PlacedBody};
+ghost use Rattle.step_plans.specs.Things.{Presence_of, Value_of};
+ghost use Rattle.plan_nodes.specs.Built.{AddsAllCells, AddsCells};
+ghost use Rattle.plan_nodes.specs.Stores.{IsPresence, IsStart, IsStorable};
 
-use hept_ast::{CoreEquation, CoreNode, Expr, Form, Memory, Name, TypeDec};
+use hept_ast::{Core, CoreEquation, Expr, Form, Memory};
+use plan_bodies::PlacedBody;
 use plan_expressions::{Draft, constant, emit};
 use std::alloc::{AllocError, Global};
 use step_plans::Store;
 
-/// What the cells of a node take at the end of an instant, and what they hold before the first one.
+/// What cells take at the end of an instant, and what they hold before the first one.
 #[derive(Drop)]
 pub(crate) struct Cells {
     pub(crate) stores: Vec<Store>,
@@ -45,23 +44,30 @@ fn keep_value(
     e: &Expr,
     initial: u32,
     here: u32,
-    types: &[TypeDec],
-    variables: &[Name],
-    registers: &[u32],
+    core: &Core,
+    placed: &PlacedBody,
     draft: &mut Draft,
     cells: &mut Cells,
 ) -> Result<(), Memory>
-    requires known { length registers.now ≡ length variables.now }
-    requires computable { Computable types.now variables.now 0 e.now }
-    ensures { OnOk result ((node : CoreNode) (presences : List ℕ) (c : Clock) → IsPresence node presences c here → AddsStores types.now node variables.now registers.now presences (Value_of e.now c (inside_of node) initial ∷ []) draft.old cells.old draft.new cells.new) }
+    requires whole { IsWhole core.now placed.now }
+    requires computable { Computable core.now.types placed.now.variables 0 e.now }
+    ensures { OnOk result ((body : Body) (c : Clock) → IsPresence placed.now c here → AddsCells core.now.types body placed.now (Value_of e.now c (inside_of body.scope) initial ∷ []) draft.old cells.old draft.new cells.new) }
 {
-    let value = emit(alloc, e, types, variables, registers, &[], draft)?;
+    let value = emit(
+        alloc,
+        e,
+        core.types.as_slice(),
+        placed.variables.as_slice(),
+        placed.registers.as_slice(),
+        &[],
+        draft,
+    )?;
     cells.push(Store::Where(here, value), initial)
 }
 
 /// A cell that takes whether there was a presence.
 fn keep_presence(here: u32, cells: &mut Cells) -> Result<(), Memory>
-    ensures { OnOk result ((types : List TypeDec) (node : CoreNode) (variables : List Name) (registers presences : List ℕ) (c : Clock) (draft : Draft) → IsPresence node presences c here → AddsStores types node variables registers presences (Presence_of c (inside_of node) ∷ []) draft cells.old draft cells.new) }
+    ensures { OnOk result ((types : List TypeDec) (body : Body) (placed : PlacedBody) (c : Clock) (draft : Draft) → IsPresence placed c here → AddsCells types body placed (Presence_of c (inside_of body.scope) ∷ []) draft cells.old draft cells.new) }
 {
     cells.push(Store::Where(here, here), 0)
 }
@@ -72,28 +78,23 @@ fn keep_fby(
     start: &Expr,
     later: &Expr,
     here: u32,
-    types: &[TypeDec],
-    variables: &[Name],
-    registers: &[u32],
+    core: &Core,
+    placed: &PlacedBody,
     draft: &mut Draft,
     cells: &mut Cells,
 ) -> Result<(), Memory>
-    requires known { length registers.now ≡ length variables.now }
+    requires whole { IsWhole core.now placed.now }
     requires start { IsStart start.now }
-    requires computable { Computable types.now variables.now 0 later.now }
-    ensures { OnOk result ((node : CoreNode) (presences : List ℕ) (c : Clock) → IsPresence node presences c here → AddsStores types.now node variables.now registers.now presences (fby_memories types.now (out-Form start.now.form) later.now c (inside_of node)) draft.old cells.old draft.new cells.new) }
+    requires computable { Computable core.now.types placed.now.variables 0 later.now }
+    ensures { OnOk result ((body : Body) (c : Clock) → IsPresence placed.now c here → AddsCells core.now.types body placed.now (fby_memories core.now.types (out-Form start.now.form) later.now c (inside_of body.scope)) draft.old cells.old draft.new cells.new) }
 {
     match &start.form {
         Form::Const(k) => {
-            let initial = constant(types, k)?;
-            keep_value(
-                alloc, later, initial, here, types, variables, registers, draft, cells,
-            )
+            let initial = constant(core.types.as_slice(), k)?;
+            keep_value(alloc, later, initial, here, core, placed, draft, cells)
         }
         _ => {
-            keep_value(
-                alloc, later, 0, here, types, variables, registers, draft, cells,
-            )?;
+            keep_value(alloc, later, 0, here, core, placed, draft, cells)?;
             keep_presence(here, cells)
         }
     }
@@ -104,80 +105,59 @@ fn add_store(
     alloc: Global,
     e: &CoreEquation,
     here: u32,
-    types: &[TypeDec],
-    variables: &[Name],
-    registers: &[u32],
+    core: &Core,
+    placed: &PlacedBody,
     draft: &mut Draft,
     cells: &mut Cells,
 ) -> Result<(), Memory>
-    requires known { length registers.now ≡ length variables.now }
-    requires right { (before : List Name) × (n : ℕ) × IsRight types.now before n e.now.right }
-    requires kept { IsKeepable types.now variables.now e.now.right }
-    ensures { OnOk result ((node : CoreNode) (presences : List ℕ) (x : Name) → IsFound node e.now x → IsPresence node presences e.now.clock.steps here → AddsStores types.now node variables.now registers.now presences (equation_memories types.now node e.now) draft.old cells.old draft.new cells.new) }
+    requires whole { IsWhole core.now placed.now }
+    requires storable { IsStorable core.now.types placed.now.variables e.now }
+    ensures { OnOk result ((body : Body) → IsPresence placed.now e.now.clock.steps here → AddsCells core.now.types body placed.now (equation_memories core.now.types body.scope e.now) draft.old cells.old draft.new cells.new) }
 {
     match &e.right.form {
-        Form::Fby(a, b) => keep_fby(
-            alloc,
-            a.get(),
-            b.get(),
-            here,
-            types,
-            variables,
-            registers,
-            draft,
-            cells,
-        ),
-        Form::Pre(a) => keep_value(
-            alloc,
-            a.get(),
-            0,
-            here,
-            types,
-            variables,
-            registers,
-            draft,
-            cells,
-        ),
+        Form::Fby(a, b) => keep_fby(alloc, a.get(), b.get(), here, core, placed, draft, cells),
+        Form::Pre(a) => keep_value(alloc, a.get(), 0, here, core, placed, draft, cells),
         Form::Arrow(_, _) => keep_presence(here, cells),
         _ => Ok(()),
     }
 }
 
-/// Adds the instructions of what the memory operators take for their next instant, over all variables, and
-/// answers the stores of the cells in the order of the equations. Each takes where its clock is present.
+/// The cells of a body, in the order of its equations. Each takes where the clock of its equation is present.
+fn add_body_stores(
+    alloc: Global,
+    core: &Core,
+    placed: &PlacedBody,
+    draft: &mut Draft,
+    cells: &mut Cells,
+) -> Result<(), Memory>
+    requires { IsWhole core.now placed.now }
+    ensures { OnOk result ((body : Body) → placed.now.node.now ≡ body.node → AddsCells core.now.types body placed.now (body_memories core.now.types body) draft.old cells.old draft.new cells.new) }
+{
+    let presences = placed.presences.as_slice();
+    let equations = placed.node.equations.as_slice();
+    for (k, e) in equations.iter().enumerate() {
+        add_store(alloc, e, presences[k], core, placed, draft, cells)?;
+    }
+    Ok(())
+}
+
+/// Adds the instructions of what the memory operators take for their next instant, over all variables of their
+/// bodies, and answers the stores of the cells, body by body.
 pub(crate) fn add_stores(
     alloc: Global,
-    node: &CoreNode,
-    types: &[TypeDec],
-    variables: &[Name],
-    registers: &[u32],
-    presences: &[u32],
+    core: &Core,
+    bodies: &[PlacedBody],
     draft: &mut Draft,
 ) -> Result<Cells, Memory>
-    requires known { length registers.now ≡ length variables.now }
-    requires placed { length presences.now ≡ length node.now.equations }
-    requires equations { AreBuildable types.now node.now (names node.now.inputs) node.now.equations }
-    requires kept { All (λ e. IsKeepable types.now variables.now e.right) node.now.equations }
-    ensures builds { IfOk result (λ cells. BuildsStores types.now node.now variables.now registers.now presences.now draft.old draft.new cells.stores.items) }
-    ensures initial { IfOk result (λ cells. cells.initial.items ≡ map initial_of (memories_of types.now node.now node.now.equations)) }
-    ensures within { IfOk result (λ cells. KeepsStores registers.now presences.now draft.old draft.new cells.stores.items) }
+    requires { All (IsWhole core.now) bodies.now }
+    ensures { IfOk result (AddsAllCells core.now.types bodies.now draft.old draft.new) }
 {
     let mut cells = Cells {
         stores: Vec::new(alloc),
         initial: Vec::new(alloc),
     };
-    let equations = node.equations.as_slice();
-    for (k, e) in equations.iter().enumerate() {
-        add_store(
-            alloc,
-            e,
-            presences[k],
-            types,
-            variables,
-            registers,
-            draft,
-            &mut cells,
-        )?;
+    for placed in bodies {
+        add_body_stores(alloc, core, placed, draft, &mut cells)?;
     }
     Ok(cells)
 }
