@@ -130,7 +130,7 @@ module _ (core : Core) (node : CoreNode) (g : Grades) (known : List Name) where
         let front = known_by node known (reads e.form) (x ∷ flat_map (λ b. reads b.value.form) bs) (reads_merge e x bs eq) r in
         merged x bs (form_by e.form (Form-F.Merge x bs) _ eq (form.rolls-Merge x bs)) (omega (arith, is)) (front x (in_first x (flat_map (λ b. reads b.value.form) bs)) (declared_in_names (core_decls node) x d sees.declared))
         (are_computable x d.ty c bs tss n is values (subst HasBranch eq (branch e h)) parts (λ y i. front y (in_more y x (flat_map (λ b. reads b.value.form) bs) i)))
-    computable e c ts n is (is_call {f = f} {args = args} eq named given fit leads made) h r = not_served e (Form-F.Call f args) eq refl (served e h)
+    computable e c ts n is (is_call {f = f} {args = args} eq named given fit leads made) h r = is_a_step e (Form-F.Call f args) eq refl (no_step e h)
     computable e c ts n is (is_async_call {q = q} {f = f} {args = args} eq named given fit leads made) h r = not_served e (Form-F.AsyncCall q f args) eq refl (served e h)
     computable e c ts n is (is_get {a = a} eq s fit) h r = not_served e (Form-F.Get a) eq refl (served e h)
 

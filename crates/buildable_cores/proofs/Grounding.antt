@@ -1,10 +1,10 @@
--- The ground of a node has what its clocks and merges need.
+-- A ground that has a body of a node has what the node's clocks and merges need there.
 use Rattle.std.proofs.Common.{◌≡◌, true, false, Bool, if◌then◌else◌, List, [], ◌∷◌, ◌++◌, map, refl, sym, ap, subst, ◌∙◌, append_assoc, append-nil}
-use Rattle.std.specs.Prelude.{All}
+use Rattle.std.specs.Prelude.{All, Contains}
 use Rattle.std.specs.List.{flat_map}
 use Rattle.std.proofs.lemmas.List.Elements.{All-head, All-tail, All-cons, All-nil}
 use Rattle.hept_ast.specs.Texts.{Name}
-use Rattle.hept_ast.specs.Scopes.{Clock, Under}
+use Rattle.hept_ast.specs.Scopes.{Clock, Scope, Under}
 use Rattle.hept_ast.specs.Parts.{below, inside}
 use Rattle.hept_ast.specs.declared.tree.ClockStep.{ClockStep}
 use Rattle.hept_ast.specs.declared.tree.Core.{Core}
@@ -28,93 +28,104 @@ use Rattle.sound_expressions.proofs.Expressions.{all_left, all_right}
 use Rattle.core_fitting.proofs.StandIn.{program_within}
 use Rattle.core_fitting.proofs.Converted.{declared_in_names}
 use Rattle.core_fitting.proofs.NamesRead.{take_last}
-use Rattle.step_plans.specs.Plans.{Covers, Ground, Tests, top_of}
+use Rattle.step_plans.specs.Plans.{Covering, Covers, Ground, IsBodyOf, Tested, Tests}
 use Rattle.plan_expressions.specs.Grounded.{AreGrounded, Grounded, IsTested, binary, conditional, constant, merged, more, none, sampled, unary, variable}
-use Rattle.plan_equations.specs.Equations.{IsProperClock, base, inside_of, one_more}
-use Rattle.plan_equations.specs.Grounds.{clock_names, covered_in, merge_of, merged_name, right_scope, tested_in}
+use Rattle.plan_equations.specs.Equations.{IsProperClock, inside_of, no_step, one_more}
+use Rattle.plan_equations.specs.Grounds.{Body, HasBody, clock_names, covered_in, merge_of, merged_name, right_scope, tested_in}
 use Rattle.buildable_cores.proofs.Divisors.{form_by}
 use Rattle.buildable_cores.proofs.Computing.{IsOperation, all_below, is_a_step, not_served}
-use Rattle.buildable_cores.proofs.Standing.{Stands, all_standing, stands_first, stands_flat, stands_left, stands_mapped, stands_right}
+use Rattle.buildable_cores.proofs.Places.{at_place}
+use Rattle.buildable_cores.proofs.Standing.{Stands, all_standing, stands_first, stands_flat, stands_in, stands_left, stands_mapped, stands_right}
 
 -- ---- clocks
 
-module _ (q : Ground) (node : CoreNode) (g : Grades) where
+module _ (q : Ground) (node : CoreNode) (b : Scope) (g : Grades) where
   abbrev IsStepTested : ClockStep → Type 0
-  IsStepTested p = Stands q.tested (Tests node p.name (top_of node))
+  IsStepTested p = Stands q.tested (Tests node p.name b)
 
-  proper_after : (before steps : Clock) → IsProperClock q node before → AreProper node g before steps → All IsStepTested steps → IsProperClock q node (before ++ steps)
-  proper_after before [] proper h tested = subst (IsProperClock q node) (sym (append-nil before)) proper
+  proper_after : (before steps : Clock) → IsProperClock q node b before → AreProper node g before steps → All IsStepTested steps → IsProperClock q node b (before ++ steps)
+  proper_after before [] proper h tested = subst (IsProperClock q node b) (sym (append-nil before)) proper
   proper_after before (p ∷ steps) proper h tested =
       let t = All-head IsStepTested p steps tested in
       let next = one_more p t.place proper t.at h.0.1 in
-      subst (IsProperClock q node) (append_assoc before (p ∷ []) steps) (proper_after (before ++ p ∷ []) steps next h.1 (All-tail IsStepTested p steps tested))
+      subst (IsProperClock q node b) (append_assoc before (p ∷ []) steps) (proper_after (before ++ p ∷ []) steps next h.1 (All-tail IsStepTested p steps tested))
 
-  pub proper_clock : (steps : Clock) → AreProper node g [] steps → All IsStepTested steps → IsProperClock q node steps
-  proper_clock steps h tested = proper_after [] steps base h tested
+  pub proper_clock : (steps : Clock) → AreProper node g [] steps → All IsStepTested steps → IsProperClock q node b steps
+  proper_clock steps h tested = proper_after [] steps no_step h tested
 
 -- ---- merges
 
 -- the variable of a merge is tested, and its branches are covered
-pub record IsGroundedMerge (q : Ground) (node : CoreNode) (x : Name) (bs : List MergeBranch) : Type 0 where
-  pub tested : Stands q.tested (Tests node x (top_of node))
-  pub covered : Stands q.covered (Covers x (inside_of node) bs)
+pub record IsGroundedMerge (q : Ground) (node : CoreNode) (b : Scope) (x : Name) (bs : List MergeBranch) : Type 0 where
+  pub tested : Stands q.tested (Tests node x b)
+  pub covered : Stands q.covered (Covers x (inside_of b) bs)
 
-abbrev pub MergeGrounded : Ground → CoreNode → Form-F Form Expr MergeBranch → Type 0
-MergeGrounded q node (Form-F.Merge x bs) = IsGroundedMerge q node x bs
-MergeGrounded q node _ = Unit {0}
+abbrev pub MergeGrounded : Ground → CoreNode → Scope → Form-F Form Expr MergeBranch → Type 0
+MergeGrounded q node b (Form-F.Merge x bs) = IsGroundedMerge q node b x bs
+MergeGrounded q node b _ = Unit {0}
 
-abbrev pub HasMerge : Ground → CoreNode → Expr → Type 0
-HasMerge q node a = MergeGrounded q node (out-Form a.form)
+abbrev pub HasMerge : Ground → CoreNode → Scope → Expr → Type 0
+HasMerge q node b a = MergeGrounded q node b (out-Form a.form)
 
-module _ (q : Ground) (node : CoreNode) (tested : q.tested ≡ tested_in node) (covered : q.covered ≡ covered_in node) (e : CoreEquation) (at : Stands node.equations e) where
-  name_tested : (x : Name) → Stands (clock_names e) x → Stands q.tested (Tests node x (top_of node))
-  name_tested x s = subst (λ ts. Stands ts (Tests node x (top_of node))) (sym tested) (stands_mapped (λ x. Tests node x (top_of node)) (flat_map clock_names node.equations) x (stands_flat clock_names node.equations e x at s))
+abbrev pub body_of : CoreNode → Scope → Body
+body_of node b = record { node = node; scope = b }
 
-  pub steps_tested : All (λ p. Stands q.tested (Tests node p.name (top_of node))) e.clock.steps
-  steps_tested = all_standing (λ p. Stands q.tested (Tests node p.name (top_of node))) e.clock.steps (λ p s.
+module _ (q : Ground) (node : CoreNode) (b : Scope) (has : HasBody q (body_of node b)) (e : CoreEquation) (at : Stands node.equations e) where
+  in_tested : (t : Tested) → Stands (tested_in (body_of node b)) t → Stands q.tested t
+  in_tested t s = stands_in q.tested t (at_place (Contains q.tested) (tested_in (body_of node b)) s.place t has.tested s.at)
+
+  in_covered : (c : Covering) → Stands (covered_in (body_of node b)) c → Stands q.covered c
+  in_covered c s = stands_in q.covered c (at_place (Contains q.covered) (covered_in (body_of node b)) s.place c has.covered s.at)
+
+  name_tested : (x : Name) → Stands (clock_names e) x → Stands q.tested (Tests node x b)
+  name_tested x s = in_tested (Tests node x b) (stands_mapped (λ x. Tests node x b) (flat_map clock_names node.equations) x (stands_flat clock_names node.equations e x at s))
+
+  pub steps_tested : All (λ p. Stands q.tested (Tests node p.name b)) e.clock.steps
+  steps_tested = all_standing (λ p. Stands q.tested (Tests node p.name b)) e.clock.steps (λ p s.
       name_tested p.name (stands_left (map (λ p. p.name) e.clock.steps) (flat_map (λ a. merged_name (out-Form a.form)) (inside e.right)) p.name (stands_mapped (λ p. p.name) e.clock.steps p s)))
 
   module _ (resets : e.resets ≡ []) where
-    merge_tested : (a : Expr) (x : Name) (bs : List MergeBranch) → out-Form a.form ≡ Form-F.Merge x bs → Stands (inside e.right) a → Stands q.tested (Tests node x (top_of node))
+    merge_tested : (a : Expr) (x : Name) (bs : List MergeBranch) → out-Form a.form ≡ Form-F.Merge x bs → Stands (inside e.right) a → Stands q.tested (Tests node x b)
     merge_tested a x bs eq s = name_tested x (stands_right (map (λ p. p.name) e.clock.steps) (flat_map (λ a. merged_name (out-Form a.form)) (inside e.right)) x
         (stands_flat (λ a. merged_name (out-Form a.form)) (inside e.right) a x s (subst (λ v. Stands (merged_name v) x) (sym eq) (stands_first x []))))
 
-    merge_covered : (a : Expr) (x : Name) (bs : List MergeBranch) → out-Form a.form ≡ Form-F.Merge x bs → Stands (inside e.right) a → Stands q.covered (Covers x (inside_of node) bs)
+    merge_covered : (a : Expr) (x : Name) (bs : List MergeBranch) → out-Form a.form ≡ Form-F.Merge x bs → Stands (inside e.right) a → Stands q.covered (Covers x (inside_of b) bs)
     merge_covered a x bs eq s =
-        let here = Covers x (right_scope node e) bs in
-        let alone : Stands (merge_of (right_scope node e) (out-Form a.form)) here = subst (λ v. Stands (merge_of (right_scope node e) v) here) (sym eq) (stands_first here []) in
-        let within = stands_flat (λ a. merge_of (right_scope node e) (out-Form a.form)) (inside e.right) a here s alone in
-        let all : Stands (covered_in node) here = stands_flat (λ d. flat_map (λ a. merge_of (right_scope node d) (out-Form a.form)) (inside d.right)) node.equations e here at within in
-        subst (λ cs. Stands cs (Covers x (inside_of node) bs)) (sym covered) (subst (λ rs. Stands (covered_in node) (Covers x (Under (top_of node) rs) bs)) resets all)
+        let here = Covers x (right_scope b e) bs in
+        let alone : Stands (merge_of (right_scope b e) (out-Form a.form)) here = subst (λ v. Stands (merge_of (right_scope b e) v) here) (sym eq) (stands_first here []) in
+        let within = stands_flat (λ a. merge_of (right_scope b e) (out-Form a.form)) (inside e.right) a here s alone in
+        let all = in_covered here (stands_flat (λ d. flat_map (λ a. merge_of (right_scope b d) (out-Form a.form)) (inside d.right)) node.equations e here at within) in
+        subst (λ rs. Stands q.covered (Covers x (Under b rs) bs)) resets all
 
-    merge_has : (a : Expr) (v : Form-F Form Expr MergeBranch) → out-Form a.form ≡ v → Stands (inside e.right) a → MergeGrounded q node v
+    merge_has : (a : Expr) (v : Form-F Form Expr MergeBranch) → out-Form a.form ≡ v → Stands (inside e.right) a → MergeGrounded q node b v
     merge_has a (Form-F.Merge x bs) eq s = record { tested = merge_tested a x bs eq s; covered = merge_covered a x bs eq s }
     merge_has a _ eq s = tt
 
-    pub merges_grounded : All (HasMerge q node) (inside e.right)
-    merges_grounded = all_standing (HasMerge q node) (inside e.right) (λ a s. merge_has a (out-Form a.form) refl s)
+    pub merges_grounded : All (HasMerge q node b) (inside e.right)
+    merges_grounded = all_standing (HasMerge q node b) (inside e.right) (λ a s. merge_has a (out-Form a.form) refl s)
 
 -- ---- expressions
 
 -- an operation whose merge, if it is one, has its ground
-pub record IsGroundedPart (q : Ground) (node : CoreNode) (a : Expr) : Type 0 where
+pub record IsGroundedPart (q : Ground) (node : CoreNode) (b : Scope) (a : Expr) : Type 0 where
   pub operation : IsOperation a
-  pub merge : HasMerge q node a
+  pub merge : HasMerge q node b a
 
-pub grounded_parts : (q : Ground) (node : CoreNode) (xs : List Expr) → All IsOperation xs → All (HasMerge q node) xs → All (IsGroundedPart q node) xs
-grounded_parts q node [] h m = All-nil (IsGroundedPart q node)
-grounded_parts q node (x ∷ xs) h m =
-    All-cons (IsGroundedPart q node) x xs (record { operation = All-head IsOperation x xs h; merge = All-head (HasMerge q node) x xs m }) (grounded_parts q node xs (All-tail IsOperation x xs h) (All-tail (HasMerge q node) x xs m))
+pub grounded_parts : (q : Ground) (node : CoreNode) (b : Scope) (xs : List Expr) → All IsOperation xs → All (HasMerge q node b) xs → All (IsGroundedPart q node b) xs
+grounded_parts q node b [] h m = All-nil (IsGroundedPart q node b)
+grounded_parts q node b (x ∷ xs) h m =
+    All-cons (IsGroundedPart q node b) x xs (record { operation = All-head IsOperation x xs h; merge = All-head (HasMerge q node b) x xs m })
+    (grounded_parts q node b xs (All-tail IsOperation x xs h) (All-tail (HasMerge q node b) x xs m))
 
-module _ (core : Core) (node : CoreNode) (g : Grades) (q : Ground) where
+module _ (core : Core) (node : CoreNode) (g : Grades) (q : Ground) (b : Scope) (body : IsBodyOf b node) where
   abbrev k : Within
   k = program_within core node (may g)
 
   abbrev Part : Expr → Type 0
-  Part = IsGroundedPart q node
+  Part = IsGroundedPart q node b
 
   abbrev Ground_at : Clock → Expr → Type 0
-  Ground_at c e = Grounded q node (top_of node) (inside_of node) c e
+  Ground_at c e = Grounded q node b (inside_of b) c e
 
   served : (e : Expr) (v : Form-F Form Expr MergeBranch) {P : Type 0} → out-Form e.form ≡ v → is_served_form v ≡ false → All Part (inside e) → P
   served e v eq n h = not_served e v eq n (All-head Part e (below e.form) h).operation.served
@@ -122,17 +133,17 @@ module _ (core : Core) (node : CoreNode) (g : Grades) (q : Ground) where
   stepped : (e : Expr) (v : Form-F Form Expr MergeBranch) {P : Type 0} → out-Form e.form ≡ v → is_step v ≡ true → All Part (inside e) → P
   stepped e v eq n h = is_a_step e v eq n (All-head Part e (below e.form) h).operation.no_step
 
-  merge_of_part : (e : Expr) (x : Name) (bs : List MergeBranch) → out-Form e.form ≡ Form-F.Merge x bs → All Part (inside e) → IsGroundedMerge q node x bs
-  merge_of_part e x bs eq h = subst (MergeGrounded q node) eq (All-head Part e (below e.form) h).merge
+  merge_of_part : (e : Expr) (x : Name) (bs : List MergeBranch) → out-Form e.form ≡ Form-F.Merge x bs → All Part (inside e) → IsGroundedMerge q node b x bs
+  merge_of_part e x bs eq h = subst (MergeGrounded q node b) eq (All-head Part e (below e.form) h).merge
 
-  tested_at : (x : Name) (d : Decl) (c : Clock) → Sees k [] x d c → Stands q.tested (Tests node x (top_of node)) → IsTested q node (top_of node) (inside_of node) c x
+  tested_at : (x : Name) (d : Decl) (c : Clock) → Sees k [] x d c → Stands q.tested (Tests node x b) → IsTested q node b (inside_of b) c x
   tested_at x d c sees tested = record {
-    body = refl;
+    body = body;
     resets = [];
     under = refl;
     place = tested.place;
     tested = tested.at;
-    clock = sym (ap (λ (b : Bool). if b then core_clock node x else []) (declared_in_names (core_decls node) x d sees.declared)) ∙ sees.here;
+    clock = sym (ap (λ (own : Bool). if own then core_clock node x else []) (declared_in_names (core_decls node) x d sees.declared)) ∙ sees.here;
   }
 
   mutual
@@ -161,11 +172,11 @@ module _ (core : Core) (node : CoreNode) (g : Grades) (q : Ground) where
         let m = merge_of_part e x bs eq h in
         merged x bs m.covered.place (form_by e.form (Form-F.Merge x bs) _ eq (form.rolls-Merge x bs)) (tested_at x d c sees m.tested) m.covered.at
         (are_grounded x d.ty c bs tss values (all_below Part e (Form-F.Merge x bs) _ (flat_map (λ b. inside b.value) bs) eq (form.rolls-Merge x bs) (below-Merge x bs) h))
-    grounded e c ts (is_call {f = f} {args = args} eq named given fit leads made) h = served e (Form-F.Call f args) eq refl h
+    grounded e c ts (is_call {f = f} {args = args} eq named given fit leads made) h = stepped e (Form-F.Call f args) eq refl h
     grounded e c ts (is_async_call {q = p} {f = f} {args = args} eq named given fit leads made) h = served e (Form-F.AsyncCall p f args) eq refl h
     grounded e c ts (is_get {a = a} eq s fit) h = served e (Form-F.Get a) eq refl h
 
-    are_grounded : (x : Name) (t : Ty) (c : Clock) (bs : List MergeBranch) (tss : List (List Ty)) → SoundBranches k [] x t c bs tss → All Part (flat_map (λ b. inside b.value) bs) → AreGrounded q node (top_of node) (inside_of node) c x bs
+    are_grounded : (x : Name) (t : Ty) (c : Clock) (bs : List MergeBranch) (tss : List (List Ty)) → SoundBranches k [] x t c bs tss → All Part (flat_map (λ b. inside b.value) bs) → AreGrounded q node b (inside_of b) c x bs
     are_grounded x t c _ _ no_branches h = none
     are_grounded x t c _ _ (a_branch {b = b} {bs = bs} {ts = ts} {tss = tss} tag s never rest) h =
         let later = flat_map (λ b. inside b.value) bs in

@@ -2,9 +2,11 @@ pub mod Divisors
 pub mod Computing
 pub mod RightSides
 pub mod Standing
+pub mod CallsIn
+pub mod CallRights
+pub mod Places
 pub mod Grounding
 pub mod GroundedRights
-pub mod Places
 pub mod Ordering
 pub mod NodeFacts
 pub mod Built

@@ -61,6 +61,10 @@ first_differ (x ∷ xs) ys h = (λ i. h.0 (longer i), first_differ xs ys h.1)
     longer at_head = at_head
     longer (in_tail i) = in_tail (longer i)
 
+pub second_differ : (xs ys : List Name) → AllDiffer (xs ++ ys) → AllDiffer ys
+second_differ [] ys h = h
+second_differ (x ∷ xs) ys h = second_differ xs ys h.1
+
 names_append : (xs ys : List Decl) → names (xs ++ ys) ≡ names xs ++ names ys
 names_append [] ys = refl
 names_append (x ∷ xs) ys = ap (λ (l : List Name). x.name ∷ l) (names_append xs ys)
@@ -137,3 +141,15 @@ module _ (core : Core) (node : CoreNode) (wf : IsWellFormedNode core node) where
 
   pub left_among : (x : Name) (front : List CoreEquation) (e : CoreEquation) (rest : List CoreEquation) → node.equations ≡ front ++ e ∷ rest → is_in x e.left ≡ true → is_in x (lefts_of node) ≡ true
   left_among x front e rest all i = ap (λ (es : List CoreEquation). is_in x (lefts es)) all ∙ (ap (is_in x) (lefts_append front (e ∷ rest)) ∙ in_right x (lefts front) (lefts (e ∷ rest)) (in_left x e.left (lefts rest) i))
+
+  left_differ : (front : List CoreEquation) (e : CoreEquation) (rest : List CoreEquation) → node.equations ≡ front ++ e ∷ rest → AllDiffer e.left
+  left_differ front e rest all =
+      let one : AllDiffer (lefts front ++ lefts (e ∷ rest)) = subst AllDiffer (ap lefts all ∙ lefts_append front (e ∷ rest)) wf.one_left in
+      first_differ e.left (lefts rest) (second_differ (lefts front) (lefts (e ∷ rest)) one)
+
+  -- and each name of it stands at its place
+  pub found_by_all : (front : List CoreEquation) (e : CoreEquation) (rest : List CoreEquation) → node.equations ≡ front ++ e ∷ rest → (j : ℕ) (x : Name) → slice_get e.left j ≡ Some x →
+      (equation_of node x ≡ Some e) × (place_in x e.left ≡ j) × (is_in x inputs ≡ false)
+  found_by_all front e rest all j x h =
+      let i = at_in x e.left j h in
+      (found_by x front e rest all i, place_is x e.left j (left_differ front e rest all) h, left_is_no_input x (left_among x front e rest all i))

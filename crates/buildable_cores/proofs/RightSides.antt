@@ -1,5 +1,5 @@
 -- Right sides in normal form: what they compute at the instant, and what they take for the next one.
-use Rattle.std.proofs.Common.{◌≡◌, ℕ, suc, length, true, false, List, [], ◌∷◌, ◌++◌, refl, sym, ap, subst, ◌∙◌}
+use Rattle.std.proofs.Common.{◌≡◌, ℕ, suc, length, Bool, true, false, List, [], ◌∷◌, ◌++◌, refl, sym, ap, subst, ◌∙◌}
 use Rattle.std.specs.Prelude.{All, IsTrue}
 use Rattle.std.proofs.lemmas.Bool.{false≢true}
 use Rattle.std.proofs.lemmas.List.Elements.{All-nil, All-cons, All-head, All-tail}
@@ -29,11 +29,19 @@ use Rattle.core_fitting.proofs.NamesRead.{in_first, reads_arrow, reads_fby, read
 use Rattle.flat_cores.proofs.ServedForms.{HasServedForm, Served}
 use Rattle.plan_expressions.specs.Computable.{Computable, constant, variable}
 use Rattle.plan_equations.specs.Rights.{IsRight, arrow, expression, from_constant, from_variable, previous}
-use Rattle.plan_nodes.specs.Nodes.{IsKeepable, KeepsComputable}
+use Rattle.plan_bodies.specs.Buildable.{IsKeepable, KeepsComputable}
 use Rattle.buildable_cores.proofs.Divisors.{form_by}
 use Rattle.buildable_cores.proofs.Computing.{IsOperation, ReadsKnown, all_below, computable, is_a_step, known_by, known_left, known_right, not_served}
 
-abbrev IsSimpleForm : Expr → Type 0
+-- a synchronous call
+abbrev pub is_sync_call : Form-F Form Expr MergeBranch → Bool
+is_sync_call (Form-F.Call f args) = true
+is_sync_call _ = false
+
+pub no_call : {P : Type 0} (e : Expr) (v : Form-F Form Expr MergeBranch) → out-Form e.form ≡ v → is_sync_call v ≡ true → is_sync_call (out-Form e.form) ≡ false → P
+no_call e v eq h n = absurd (false≢true (sym n ∙ (ap is_sync_call eq ∙ h)))
+
+abbrev pub IsSimpleForm : Expr → Type 0
 IsSimpleForm a = IsTrue (is_simple (out-Form a.form))
 
 not_simple : {P : Type 0} (e : Expr) (v : Form-F Form Expr MergeBranch) → out-Form e.form ≡ v → is_simple v ≡ false → IsSimpleForm e → P
@@ -50,7 +58,7 @@ operations (x ∷ xs) h k b =
     (operations xs (All-tail HasServedForm x xs h) (All-tail (λ (a : Expr). is_step (out-Form a.form) ≡ false) x xs k) (All-tail (λ (a : Expr). HasBranch (out-Form a.form)) x xs b))
 
 -- what a step is over is simple
-simple_operands : (e : Expr) (v : Form-F Form Expr MergeBranch) → out-Form e.form ≡ v → is_step v ≡ true → IsNormalRight e → All IsSimpleForm (operands v)
+pub simple_operands : (e : Expr) (v : Form-F Form Expr MergeBranch) → out-Form e.form ≡ v → is_step v ≡ true → IsNormalRight e → All IsSimpleForm (operands v)
 simple_operands e v eq h (step is simple) = subst (λ (w : Form-F Form Expr MergeBranch). All IsSimpleForm (operands w)) eq simple
 simple_operands e v eq h (plain none) = is_a_step e v eq h (All-head (λ (a : Expr). is_step (out-Form a.form) ≡ false) e (below e.form) none)
 
@@ -124,30 +132,31 @@ module _ (core : Core) (node : CoreNode) (g : Grades) where
     plain_right : (e : Expr) (c : Clock) (ts : List Ty) (v : Form-F Form Expr MergeBranch) → Sound k [] e c ts → out-Form e.form ≡ v → is_step v ≡ false → Served e → HasBranches e → IsNormalRight e → ReadsKnown node known (reads e.form) → IsRight core.types known (suc (length c)) e
     plain_right e c ts v s eq h served branches n r = expression (computable core node g known e c ts (suc (length c)) refl s (plain_operations e v eq h served branches n) r)
 
-    pub right : (e : Expr) (c : Clock) (ts : List Ty) → Sound k [] e c ts → Served e → HasBranches e → IsNormalRight e → ReadsKnown node known (reads e.form) → IsRight core.types known (suc (length c)) e
-    right e c ts (is_fby {a = a} {b = b} {us = us} eq s u fit never) h m n r =
+    -- one that is no call
+    pub right : (e : Expr) (c : Clock) (ts : List Ty) → Sound k [] e c ts → is_sync_call (out-Form e.form) ≡ false → Served e → HasBranches e → IsNormalRight e → ReadsKnown node known (reads e.form) → IsRight core.types known (suc (length c)) e
+    right e c ts (is_fby {a = a} {b = b} {us = us} eq s u fit never) o h m n r =
         let parts = fby_parts e a b eq h in
         first_known known e a b (form_by e.form (Form-F.Fby a b) _ eq (form.rolls-Fby a b)) (simple a c us s (first_of e a b (Form-F.Fby a b) eq refl refl n) (served_first a parts.0))
         (known_by node known (reads e.form) (reads a.form) (reads_fby e a b eq) r)
-    right e c ts (is_pre {a = a} eq s fit never) h m n r = previous a (form_by e.form (Form-F.Pre a) _ eq (form.rolls-Pre a))
-    right e c ts (is_arrow {a = a} {b = b} {us = us} {vs = vs} eq s u fit) h m n r =
+    right e c ts (is_pre {a = a} eq s fit never) o h m n r = previous a (form_by e.form (Form-F.Pre a) _ eq (form.rolls-Pre a))
+    right e c ts (is_arrow {a = a} {b = b} {us = us} {vs = vs} eq s u fit) o h m n r =
         let parts = arrow_parts e a b eq h in
         let both = known_by node known (reads e.form) (reads a.form ++ reads b.form) (reads_arrow e a b eq) r in
         arrow a b (form_by e.form (Form-F.Arrow a b) _ eq (form.rolls-Arrow a b))
         (simple_computable known a (simple a c us s (first_of e a b (Form-F.Arrow a b) eq refl refl n) (served_first a parts.0)) (known_left node known (reads a.form) (reads b.form) both))
         (simple_computable known b (simple b c vs u (second_of e a b (Form-F.Arrow a b) eq refl refl n) (served_first b parts.1)) (known_right node known (reads a.form) (reads b.form) both))
-    right e c _ (is_constant {v = v} eq type fits) h m n r = expression (constant v (form_by e.form (Form-F.Const v) _ eq (form.rolls-Const v)))
-    right e c _ (is_async_constant {v = v} eq type fits) h m n r = not_served e (Form-F.AsyncConst v) eq refl (served_first e h)
-    right e c _ (is_variable {x = x} eq sees) h m n r = plain_right e c _ (Form-F.Var x) (is_variable eq sees) eq refl h m n r
-    right e c _ (is_last {x = x} eq sees init) h m n r = not_served e (Form-F.Last x) eq refl (served_first e h)
-    right e c ts (is_unary {a = a} {op = op} eq s fit) h m n r = plain_right e c ts (Form-F.Unary op a) (is_unary eq s fit) eq refl h m n r
-    right e c ts (is_binary {a = a} {b = b} {op = op} eq s u fit nonzero) h m n r = plain_right e c ts (Form-F.Binary op a b) (is_binary eq s u fit nonzero) eq refl h m n r
-    right e c ts (is_if {i = i} {a = a} {b = b} eq q s u fit) h m n r = plain_right e c ts (Form-F.If i a b) (is_if eq q s u fit) eq refl h m n r
-    right e _ ts (is_when {a = a} {tag = tag} {x = x} eq sees s tag_of tags fit never) h m n r = plain_right e _ ts (Form-F.When a tag x) (is_when eq sees s tag_of tags fit never) eq refl h m n r
-    right e c ts (is_merge {x = x} {bs = bs} eq sees tags never values all fit) h m n r = plain_right e c ts (Form-F.Merge x bs) (is_merge eq sees tags never values all fit) eq refl h m n r
-    right e c ts (is_call {f = f} {args = args} eq named given fit leads made) h m n r = not_served e (Form-F.Call f args) eq refl (served_first e h)
-    right e c ts (is_async_call {q = q} {f = f} {args = args} eq named given fit leads made) h m n r = not_served e (Form-F.AsyncCall q f args) eq refl (served_first e h)
-    right e c ts (is_get {a = a} eq s fit) h m n r = not_served e (Form-F.Get a) eq refl (served_first e h)
+    right e c _ (is_constant {v = v} eq type fits) o h m n r = expression (constant v (form_by e.form (Form-F.Const v) _ eq (form.rolls-Const v)))
+    right e c _ (is_async_constant {v = v} eq type fits) o h m n r = not_served e (Form-F.AsyncConst v) eq refl (served_first e h)
+    right e c _ (is_variable {x = x} eq sees) o h m n r = plain_right e c _ (Form-F.Var x) (is_variable eq sees) eq refl h m n r
+    right e c _ (is_last {x = x} eq sees init) o h m n r = not_served e (Form-F.Last x) eq refl (served_first e h)
+    right e c ts (is_unary {a = a} {op = op} eq s fit) o h m n r = plain_right e c ts (Form-F.Unary op a) (is_unary eq s fit) eq refl h m n r
+    right e c ts (is_binary {a = a} {b = b} {op = op} eq s u fit nonzero) o h m n r = plain_right e c ts (Form-F.Binary op a b) (is_binary eq s u fit nonzero) eq refl h m n r
+    right e c ts (is_if {i = i} {a = a} {b = b} eq q s u fit) o h m n r = plain_right e c ts (Form-F.If i a b) (is_if eq q s u fit) eq refl h m n r
+    right e _ ts (is_when {a = a} {tag = tag} {x = x} eq sees s tag_of tags fit never) o h m n r = plain_right e _ ts (Form-F.When a tag x) (is_when eq sees s tag_of tags fit never) eq refl h m n r
+    right e c ts (is_merge {x = x} {bs = bs} eq sees tags never values all fit) o h m n r = plain_right e c ts (Form-F.Merge x bs) (is_merge eq sees tags never values all fit) eq refl h m n r
+    right e c ts (is_call {f = f} {args = args} eq named given fit leads made) o h m n r = no_call e (Form-F.Call f args) eq refl o
+    right e c ts (is_async_call {q = q} {f = f} {args = args} eq named given fit leads made) o h m n r = not_served e (Form-F.AsyncCall q f args) eq refl (served_first e h)
+    right e c ts (is_get {a = a} eq s fit) o h m n r = not_served e (Form-F.Get a) eq refl (served_first e h)
 
     -- ---- for the next instant
 

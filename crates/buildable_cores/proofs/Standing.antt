@@ -1,6 +1,6 @@
 -- Elements of lists by their places.
-use Rattle.std.proofs.Common.{◌≡◌, ℕ, zero, suc, List, [], ◌∷◌, ◌++◌, map, refl, sym, subst, Some}
-use Rattle.std.specs.Prelude.{All, slice_get}
+use Rattle.std.proofs.Common.{◌≡◌, ℕ, zero, suc, ◌<◌, List, [], ◌∷◌, ◌++◌, length, map, refl, sym, ap, subst, arith, Some}
+use Rattle.std.specs.Prelude.{All, Contains, slice_get, slice_index_or}
 use Rattle.std.specs.List.{flat_map}
 use Rattle.std.proofs.lemmas.List.Elements.{All-nil, All-cons}
 
@@ -14,6 +14,15 @@ stands_first x xs = record { place = 0; at = refl }
 
 pub stands_next : {A : Type 0} (y : A) (xs : List A) (x : A) → Stands xs x → Stands (y ∷ xs) x
 stands_next y xs x h = record { place = suc h.place; at = h.at }
+
+-- what a list contains stands at a place of it
+pub stands_in : {A : Type 0} (xs : List A) (x : A) → Contains xs x → Stands xs x
+stands_in [] x i = let l = i.1 in absurd (omega arith)
+stands_in (y ∷ ys) x i = go i.0 i.1 i.2 (stands_in ys x)
+  where
+    go : (j : ℕ) → j < length (y ∷ ys) → slice_index_or (y ∷ ys) j x ≡ x → (Contains ys x → Stands ys x) → Stands (y ∷ ys) x
+    go zero l e later = record { place = 0; at = ap Some e }
+    go (suc j) l e later = stands_next y ys x (later (j, omega arith, e))
 
 pub stands_right : {A : Type 0} (xs ys : List A) (x : A) → Stands ys x → Stands (xs ++ ys) x
 stands_right [] ys x h = h
