@@ -16,7 +16,7 @@ use Rattle.hept_ast.specs.declared.tree.Form.TheOpen.{Form-F}
 use Rattle.hept_ast.specs.declared.tree.Form.TheViews.{roll-out-Form}
 use Rattle.hept_ast.specs.declared.tree.Form.TheVariants as form
 use Rattle.hept_ast.proofs.FormsOf.{below-Const, below-Var, below-Unary, below-Binary, below-If, below-Fby, below-Pre, below-Arrow, below-When, below-Merge, below-Call, below-AsyncCall, below-AsyncConst, below-Get}
-use Rattle.core_fitting.specs.Sound.{Sound, SoundArguments, SoundBranches, Within, a_branch, an_argument, async, is_arrow, is_async_constant, is_binary, is_call, is_constant, is_fby, is_get, is_if, is_merge, is_pre, is_result, is_unary, is_variable, is_when, no_arguments, no_branches, sync}
+use Rattle.core_fitting.specs.Sound.{Sound, SoundArguments, SoundBranches, SoundCall, Within, a_branch, an_argument, async, is_arrow, is_async_constant, is_binary, is_call, is_constant, is_fby, is_get, is_if, is_merge, is_pre, is_result, is_unary, is_variable, is_when, no_arguments, no_branches, sync}
 
 module _ (core : Core) (k : Within) (rs : List Name) where
   pub record IsSoundPart (e : Expr) : Type 0 where
@@ -64,7 +64,7 @@ module _ (core : Core) (k : Within) (rs : List Name) where
         all_below e _ _ _ eq (form.rolls-AsyncCall q f args) (below-AsyncCall q f args) (sound_arguments args c g.inputs sound)
     sound_below e c _ n (is_get {a = a} {t = t} eq sound) = all_below e _ _ _ eq (form.rolls-Get a) (below-Get a) (whole a c _ n sound (sound_below a c _ n sound))
 
-    sound_arguments : (es : List Expr) (c : Clock) (ds : List Decl) → SoundArguments core k rs es c ds → All IsSoundPart (flat_map inside es)
+    pub sound_arguments : (es : List Expr) (c : Clock) (ds : List Decl) → SoundArguments core k rs es c ds → All IsSoundPart (flat_map inside es)
     sound_arguments _ c _ no_arguments = none
     sound_arguments _ c _ (an_argument {e = e} {es = es} {d = d} {ds = ds} sound rest) = both (inside e) (flat_map inside es) (whole e c d.ty [] sound (sound_below e c d.ty [] sound)) (sound_arguments es c ds rest)
 
@@ -75,3 +75,9 @@ module _ (core : Core) (k : Within) (rs : List Name) where
 
   pub sound_inside : (e : Expr) (c : Clock) (y : Ty) (n : List (List Name)) → Sound core k rs e c y n → All IsSoundPart (inside e)
   sound_inside e c y n sound = whole e c y n sound (sound_below e c y n sound)
+
+  -- below a call there are its arguments
+  pub call_below : (e : Expr) (c : Clock) (ts : List Ty) → SoundCall core k rs e c ts → All IsSoundPart (below e.form)
+  call_below e c _ (is_call {f = f} {args = args} {g = g} (sync eq) named leads stands sound same) = all_below e _ _ _ eq (form.rolls-Call f args) (below-Call f args) (sound_arguments args c g.inputs sound)
+  call_below e c _ (is_call {f = f} {args = args} {g = g} (async {q = q} eq) named leads stands sound same) =
+      all_below e _ _ _ eq (form.rolls-AsyncCall q f args) (below-AsyncCall q f args) (sound_arguments args c g.inputs sound)

@@ -1,3 +1,6 @@
 mod Elements
 mod Inner
+mod Expanded
+mod TopCalls
+mod Unanswered
 mod Ready

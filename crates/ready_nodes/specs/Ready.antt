@@ -1,4 +1,4 @@
--- A node in which no call stands is ready for a step at each instant.
+-- A node in whose expanded text no async call stands is ready for a step at each instant.
 use Rattle.std.specs.Prelude.{ℕ, Bool, List, [], All}
 use Rattle.hept_ast.specs.Texts.{Name}
 use Rattle.hept_ast.specs.Parts.{inside}
@@ -16,16 +16,15 @@ use Rattle.step_plans.specs.Memories.{IsReady, rows_of}
 use Rattle.node_memory.specs.Standing.{no_calls}
 use Rattle.plan_equations.specs.Grounds.{ground_of}
 
--- no call stands in the node
-abbrev pub IsNoCall : Form-F Form Expr MergeBranch → Type 0
-IsNoCall (Form-F.Call f args) = ⊥
-IsNoCall (Form-F.AsyncCall q f args) = ⊥
-IsNoCall _ = Unit {0}
+-- no async call stands in the core
+abbrev pub IsNoAsyncCall : Form-F Form Expr MergeBranch → Type 0
+IsNoAsyncCall (Form-F.AsyncCall q f args) = ⊥
+IsNoAsyncCall _ = Unit {0}
 
-abbrev pub MakesNoCall : CoreNode → Type 0
-MakesNoCall node = All (λ e. All (λ a. IsNoCall (out-Form a.form)) (inside e.right)) node.equations
+abbrev pub MakesNoAsyncCall : CoreNode → Type 0
+MakesNoAsyncCall node = All (λ e. All (λ a. IsNoAsyncCall (out-Form a.form)) (inside e.right)) node.equations
 
 -- whether or not its equations have resets
 abbrev pub NodesAreReady : Type 0
-NodesAreReady = (core : Core) (f : Name) (node : CoreNode) (calls : List (Bool × List ℕ)) → IsOrdered core → StaticCore core → IsNamed core f node → MakesNoCall node →
+NodesAreReady = (core : Core) (f : Name) (node : CoreNode) (calls : List (Bool × List ℕ)) → IsOrdered core → StaticCore core → IsNamed core f node → All MakesNoAsyncCall core.nodes →
     RowsFit core.types node.inputs (rows_of calls) → IsReady core (ground_of core node) [] no_calls calls
