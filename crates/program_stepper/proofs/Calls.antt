@@ -3,12 +3,14 @@ use Rattle.std.proofs.Common.{◌≡◌, ℕ, zero, suc, false, List, [], ◌∷
 use Rattle.std.specs.Prelude.{slice_get}
 use Rattle.std.proofs.lemmas.List.{length-map}
 use Rattle.hept_ast.specs.Calls.{marks_of}
-use Rattle.hept_ast.specs.Settings.{no_marks, no_replies}
+use Rattle.hept_ast.specs.Settings.{no_marks, no_replies, of_core}
 use Rattle.hept_ast.specs.declared.tree.Core.{Core}
 use Rattle.hept_ast.specs.declared.tree.CoreNode.{CoreNode}
 use Rattle.node_memory.specs.Standing.{no_calls}
 use Rattle.plan_equations.specs.Grounds.{ground_of}
+use Rattle.step_plans.specs.Instants.{HasNoReply}
 use Rattle.step_plans.specs.Memories.{IsGroundIn, Suits, rows_of}
+use Rattle.step_plans.specs.Plans.{Calling, Calls}
 use Rattle.program_stepper.specs.Stepping.{unmarked}
 
 pub rows_unmarked : (rows : List (List ℕ)) → rows_of (unmarked rows) ≡ rows
@@ -30,12 +32,15 @@ none_marked (row ∷ rows) (suc t) = none_marked rows t
 nothing_at : {X : Type 0} (k : ℕ) (x : X) → slice_get [] k ≡ Some x → ⊥
 nothing_at k x e = cc
 
+silent : (core : Core) (call : Calling) → HasNoReply (of_core core no_marks no_replies) call
+silent core (Calls c s place) = λ n. refl
+
 -- no marks and no replies agree with the calls
 pub suits_none : (core : Core) (node : CoreNode) (rows : List (List ℕ)) → Suits core (ground_of core node) [] no_calls (unmarked rows) no_marks no_replies
 suits_none core node rows = record {
   marks = λ t lt. sym (none_marked rows t);
   agrees = λ k site j made at here. absurd (nothing_at k site at);
-  no_reply = λ k call at. absurd (nothing_at k call at);
+  no_reply = λ k call at. silent core call;
 }
 
 pub in_core : (core : Core) (node : CoreNode) → IsGroundIn core (ground_of core node)

@@ -11,7 +11,7 @@ use Rattle.hept_ast.specs.declared.tree.Node.{Node}
 use Rattle.hept_ast.specs.declared.tree.TypeDec.{TypeDec}
 use Rattle.core_making.specs.Made.{MeansNode, MeansProgram}
 use Rattle.plan_equations.specs.Grounds.{ground_of}
-use Rattle.plan_nodes.specs.Nodes.{IsBuildable}
+use Rattle.plan_bodies.specs.Buildable.{IsBuildable}
 use Rattle.step_plans.specs.Plans.{IsPlanOf}
 use Rattle.step_plans.specs.declared.plan.NodePlan.{NodePlan}
 use Rattle.core_making.specs.Made.{names_of_nodes}
@@ -27,7 +27,7 @@ use Rattle.hept_ast.specs.declared.tree.Form.{Form, out-Form}
 use Rattle.hept_ast.specs.declared.tree.Form.TheOpen.{Form-F}
 use Rattle.lowering_rules.specs.Lowering.{without_initial}
 use Rattle.node_memory.specs.Standing.{no_calls}
-use Rattle.ready_nodes.specs.Ready.{IsNoCall, MakesNoCall, NodesAreReady}
+use Rattle.ready_nodes.specs.Ready.{IsNoAsyncCall, MakesNoAsyncCall, NodesAreReady}
 use Rattle.schedule.specs.Order.{IsOrdered}
 use Rattle.served_programs.specs.Served.{is_served_form}
 use Rattle.sound_expressions.specs.Demands.{NamesDiffer}
@@ -55,8 +55,9 @@ pub index_within : (core seen : Core) (nodes : List CoreNode) (k : ℕ) (low : C
 index_within core seen nodes k low same read at =
     subst (λ (ns : List CoreNode). k < length ns) (sym (read ∙ ap (λ (d : Core). d.nodes) same)) (slice_get_within core.nodes k low at)
 
-pub buildable_as : (types others : List TypeDec) (node other : CoreNode) → types ≡ others → node ≡ other → IsBuildable others other → IsBuildable types node
-buildable_as types others node other e f h = subst (λ (ts : List TypeDec). IsBuildable ts node) (sym e) (subst (λ (n : CoreNode). IsBuildable others n) (sym f) h)
+-- the node of the core that was read can be built
+pub buildable_as : (core seen : Core) (low node : CoreNode) → seen ≡ core → node ≡ low → IsBuildable core (length core.nodes) low → IsBuildable seen (length seen.nodes) node
+buildable_as core seen low node e f h = subst (λ (d : Core). IsBuildable d (length d.nodes) node) (sym e) (subst (λ (n : CoreNode). IsBuildable core (length core.nodes) n) (sym f) h)
 
 -- ---- a call on rows that fit
 
@@ -72,7 +73,7 @@ among (n ∷ nodes) (suc k) node at = later (same node.name n.name) (among nodes
     later false h = h
 
 -- a node is found by its name where names differ
-found_at : (nodes : List CoreNode) (k : ℕ) (node : CoreNode) → NamesDiffer (names_of_nodes nodes) → slice_get nodes k ≡ Some node → find (λ n. same node.name n.name) nodes ≡ Some node
+pub found_at : (nodes : List CoreNode) (k : ℕ) (node : CoreNode) → NamesDiffer (names_of_nodes nodes) → slice_get nodes k ≡ Some node → find (λ n. same node.name n.name) nodes ≡ Some node
 found_at [] k node differ at = absurd (cc)
 found_at (n ∷ nodes) zero node differ at =
     let e : n ≡ node = cc in
@@ -89,28 +90,30 @@ found_at (n ∷ nodes) (suc k) node differ at = by (found_at nodes k node differ
         absurd (true≢false (sym known ∙ differ.0))
     by rest false e = rest
 
--- no call stands in a flat node
-no_call : (v : Form-F Form Expr MergeBranch) → IsTrue (is_served_form v) → IsNoCall v
-no_call (Form-F.Const k) h = tt
-no_call (Form-F.Var x) h = tt
-no_call (Form-F.Last x) h = tt
-no_call (Form-F.Unary op a) h = tt
-no_call (Form-F.Binary op a b) h = tt
-no_call (Form-F.If i a b) h = tt
-no_call (Form-F.Fby a b) h = tt
-no_call (Form-F.Pre a) h = tt
-no_call (Form-F.Arrow a b) h = tt
-no_call (Form-F.When a tag x) h = tt
-no_call (Form-F.Merge x bs) h = tt
-no_call (Form-F.Call f args) h = absurd (cc)
-no_call (Form-F.AsyncCall q f args) h = absurd (cc)
-no_call (Form-F.AsyncConst k) h = tt
-no_call (Form-F.Get a) h = tt
+-- no async call stands in a flat core
+no_async : (v : Form-F Form Expr MergeBranch) → IsTrue (is_served_form v) → IsNoAsyncCall v
+no_async (Form-F.Const k) h = tt
+no_async (Form-F.Var x) h = tt
+no_async (Form-F.Last x) h = tt
+no_async (Form-F.Unary op a) h = tt
+no_async (Form-F.Binary op a b) h = tt
+no_async (Form-F.If i a b) h = tt
+no_async (Form-F.Fby a b) h = tt
+no_async (Form-F.Pre a) h = tt
+no_async (Form-F.Arrow a b) h = tt
+no_async (Form-F.When a tag x) h = tt
+no_async (Form-F.Merge x bs) h = tt
+no_async (Form-F.Call f args) h = tt
+no_async (Form-F.AsyncCall q f args) h = absurd (cc)
+no_async (Form-F.AsyncConst k) h = tt
+no_async (Form-F.Get a) h = tt
 
-flat_makes_no_call : (core : Core) (k : ℕ) (node : CoreNode) → IsFlatCore core → slice_get core.nodes k ≡ Some node → MakesNoCall node
-flat_makes_no_call core k node flat at =
-    let here : All IsFlatEquation node.equations = subst (λ (n : CoreNode). All IsFlatEquation n.equations) (get_or_from_slice_get core.nodes k node node at) (flat k node (slice_get_within core.nodes k node at)) in
-    All-weaker IsFlatEquation (λ e. All (λ a. IsNoCall (out-Form a.form)) (inside e.right)) (λ e f. All-weaker (λ a. IsTrue (is_served_form (out-Form a.form))) (λ a. IsNoCall (out-Form a.form)) (λ a. no_call (out-Form a.form)) (inside e.right) f.forms) node.equations here
+no_async_node : (node : CoreNode) → All IsFlatEquation node.equations → MakesNoAsyncCall node
+no_async_node node flat =
+    All-weaker IsFlatEquation (λ e. All (λ a. IsNoAsyncCall (out-Form a.form)) (inside e.right)) (λ e f. All-weaker (λ a. IsTrue (is_served_form (out-Form a.form))) (λ a. IsNoAsyncCall (out-Form a.form)) (λ a. no_async (out-Form a.form)) (inside e.right) f.forms) node.equations flat
+
+flat_makes_no_async : (core : Core) → IsFlatCore core → All MakesNoAsyncCall core.nodes
+flat_makes_no_async core flat = All-weaker (λ (n : CoreNode). All IsFlatEquation n.equations) MakesNoAsyncCall no_async_node core.nodes flat
 
 -- without the initial constants a row fits as before
 row_still_fits : (types : List TypeDec) (ds : List Decl) (row : List ℕ) → RowFits types ds row → RowFits types (map without_initial ds) row
@@ -129,11 +132,16 @@ ReadyOn c core node low = (rows : List (List ℕ)) → RowsFit c.program.types n
 pub ready_on : NodesAreReady → (c : ClockedProgram) (core : Core) (k : ℕ) (node : Node) (low : CoreNode) → IsOrdered core → StaticCore core → IsFlatCore core → NamesDiffer (names_of_nodes core.nodes) → core.types ≡ c.program.types →
     slice_get core.nodes k ≡ Some low → low.inputs ≡ map without_initial node.inputs → ReadyOn c core node low
 ready_on law c core k node low ordered facts flat differ types at takes rows fit =
-    law core low.name low (unmarked rows) ordered facts (found_at core.nodes k low differ at) (flat_makes_no_call core k low flat at)
+    law core low.name low (unmarked rows) ordered facts (found_at core.nodes k low differ at) (flat_makes_no_async core flat)
     (subst (λ (ts : List TypeDec). RowsFit ts low.inputs (rows_of (unmarked rows))) (sym types)
     (subst (λ (ds : List Decl). RowsFit c.program.types ds (rows_of (unmarked rows))) (sym takes)
     (subst (λ (rs : List (List ℕ)). RowsFit c.program.types (map without_initial node.inputs) rs) (sym (rows_unmarked rows)) (rows_still_fit c.program.types node.inputs rows fit))))
 
-pub planned : (c : ClockedProgram) (core : Core) (number : ℕ) (node : Node) (means : MeansNode c core number node) (built : CoreNode) (plan : NodePlan) → built ≡ means.low → IsPlanOf (ground_of core built) [] built plan →
+pub planned : (c : ClockedProgram) (core seen : Core) (number : ℕ) (node : Node) (means : MeansNode c core number node) (built : CoreNode) (plan : NodePlan) → seen ≡ core → built ≡ means.low → IsPlanOf (ground_of seen built) [] built plan →
     ReadyOn c core node means.low → IsPlanFor c number node plan
-planned c core number node means built plan e h ready = record { core = core; means = means; is_plan = subst (λ (n : CoreNode). IsPlanOf (ground_of core n) [] n plan) e h; ready = ready }
+planned c core seen number node means built plan same e h ready = record {
+  core = core;
+  means = means;
+  is_plan = subst (λ (n : CoreNode). IsPlanOf (ground_of core n) [] n plan) e (subst (λ (d : Core). IsPlanOf (ground_of d built) [] built plan) same h);
+  ready = ready;
+}

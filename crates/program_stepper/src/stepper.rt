@@ -37,7 +37,7 @@ fn plan_of(alloc: Global, accepted: &Accepted, number: usize) -> Result<NodePlan
     let made = make_core(alloc, accepted)?;
     let core = made.core();
     let node = &core.nodes.as_slice()[number];
-    build_node(alloc, core.types.as_slice(), node)
+    build_node(alloc, core, node)
 }
 
 /// A program with what it keeps between two instants.

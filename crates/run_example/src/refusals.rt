@@ -37,13 +37,6 @@ fn block(rt: HostRuntime) -> Result<(), Fail> {
     not_served(&rt, rt.alloc(), text)
 }
 
-#[test]
-fn call(rt: HostRuntime) -> Result<(), Fail> {
-    let text =
-        b"node f(x:int) returns (y:int) let y = x tel node main(x:int) returns (y:int) let y = f(x) tel";
-    not_served(&rt, rt.alloc(), text)
-}
-
 // Each node counts, also one that isn't run.
 #[test]
 fn other_node(rt: HostRuntime) -> Result<(), Fail> {
@@ -242,4 +235,23 @@ fn too_deep(rt: HostRuntime) -> Result<(), Fail> {
         text.as_slice(),
         b"hepasync: refused: too deep at 553\n",
     )
+}
+
+// ---- size
+
+// Nodes n0 to n18, each of which calls the one before it twice.
+#[test]
+fn too_large(rt: HostRuntime) -> Result<(), Fail> {
+    let alloc = rt.alloc();
+    let mut text = String::new(alloc);
+    text.push_str("node n0(x:int) returns (y:int) let y = x tel ")?;
+    for k in 1..19u32 {
+        let before = k - 1;
+        let node = format!(in alloc;
+            "node n{k}(x:int) returns (y:int) let y = n{before}(x) + n{before}(x) tel "
+        )?;
+        text.push_str(node.as_str())?;
+    }
+    let line = b"hepasync: refused: too large: 1572859 over 1000000\n";
+    refuses(&rt, alloc, text.as_bytes(), line)
 }

@@ -79,9 +79,11 @@ fn expect_values<R: Abort>(
     };
     let written = values_of(rt, alloc, written)?;
     let accepted = accepted(rt, alloc, text);
-    assert!(rt; accepted.program().nodes.len() > 0);
+    let nodes = accepted.program().nodes.len();
+    assert!(rt; nodes > 0 && nodes < 100);
+    let main = NodeId((nodes - 1) as u32);
     let inputs = values_of(rt, alloc, trace)?;
-    let Ok(outputs) = value_rows(alloc, &accepted, NodeId(0), &inputs) else {
+    let Ok(outputs) = value_rows(alloc, &accepted, main, &inputs) else {
         panic!(rt; "no values");
     };
     assert_eq!(rt; outputs.len(), count);
@@ -129,4 +131,11 @@ fn sums_on_two_clocks(rt: HostRuntime) -> Result<(), Fail> {
         "true 1\nfalse 2\ntrue 3\nfalse 4\nfalse 5\n",
         5,
     )
+}
+
+#[test]
+fn calls(rt: HostRuntime) -> Result<(), Fail> {
+    let text =
+        b"node sum(x:int) returns (s,n:int) let s = (0 fby s) + x; n = 1 -> pre n + 1 tel node half(x:int) returns (y:int) let y = (x + (0 fby x)) / 2 tel node mean(c:bool; x:int) returns (y:int) var s,n:int; let (s, n) = sum(x); y = merge c (true -> half(s when c)) (false -> n whenot c) tel node main(c:bool; x:int) returns (y,z:int) let y = mean(c, x); z = mean(not c, y) tel";
+    expect_values(&rt, rt.alloc(), text, "true 1\nfalse 2\ntrue 3\n", 3)
 }
