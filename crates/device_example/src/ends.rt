@@ -157,6 +157,12 @@ fn refused_programs(rt: HostRuntime) -> Result<(), Fail> {
         alloc,
         Refusal::NotServed,
         "hepasync: refused: not served\n",
+    )?;
+    expect_refusal(
+        &rt,
+        alloc,
+        Refusal::TooLarge { kept: 1_572_859 },
+        "hepasync: refused: too large: 1572859 over 1000000\n",
     )
 }
 

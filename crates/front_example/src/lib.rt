@@ -12,6 +12,8 @@ mod erasure;
 #[cfg(test)]
 mod limits;
 #[cfg(test)]
+mod sizes;
+#[cfg(test)]
 mod tests;
 #[cfg(test)]
 mod texts;

@@ -1,5 +1,5 @@
 -- Texts and programs that are refused are refused so.
-use Rattle.std.proofs.Common.{true, ◌≡◌, ◌⊎◌, inl, inr, ⊎_elim, ℕ, Bool, false, List, None, Result, Ok, Err, sym, ap, subst, ◌∙◌, [], ◌∷◌, refl, arith}
+use Rattle.std.proofs.Common.{true, ◌≡◌, ◌⊎◌, inl, inr, ⊎_elim, ℕ, ◌<◌, length, Some, Bool, false, List, None, Result, Ok, Err, sym, ap, subst, ◌∙◌, [], ◌∷◌, refl, arith}
 use Rattle.std.specs.Prelude.{IfOk, IfErr, OnOk, MatchResult, IsTrue, ◌↔◌}
 use Rattle.hept_ast.specs.declared.tree.Program.{Program}
 use Rattle.hept_ast.specs.declared.tree.Node.{Node}
@@ -10,7 +10,7 @@ use Rattle.hept_ast.specs.ClockMaps.{ClockMap, clock_in}
 use Rattle.hept_ast.specs.Clocks.{IsClocked}
 use Rattle.hept_ast.specs.Initial.{IsInitialised}
 use Rattle.hept_ast.specs.Stages.{ClockedProgram, HasLeastClocks}
-use Rattle.std.proofs.lemmas.Option.{slice_get-get_or}
+use Rattle.std.proofs.lemmas.Option.{none-some, same_Some, slice_get-get_or}
 use Rattle.clock_calculus.specs.Agreeing.{LeastMapsAgree}
 use Rattle.clock_calculus.specs.Checked.{IsClockFault}
 use Rattle.clock_calculus.specs.declared.check.ClockFault.{ClockFault}
@@ -26,7 +26,7 @@ use Rattle.type_futures.specs.declared.check.TypeFault.TheVariants as typing
 use Rattle.type_futures.specs.declared.choice.TopFault.{TopFault}
 use Rattle.type_futures.specs.declared.choice.TopFault.TheVariants as choosing
 use Rattle.type_futures.specs.Checked.{IsTypeFault}
-use Rattle.type_futures.specs.Chosen.{IsChosen, IsTopFault, chosen, future_at}
+use Rattle.type_futures.specs.Chosen.{IsChosen, IsTopFault, chosen, future_at, last_of}
 use Rattle.std.specs.Option.{option_and_then}
 use Rattle.ept_reader.specs.declared.reader.ReadFault.{ReadFault}
 use Rattle.ept_reader.specs.declared.reader.ReadFault.TheVariants as reading
@@ -34,9 +34,11 @@ use Rattle.ept_reader.specs.Spelling.{IsProgramText, IsRefusalOf}
 use Rattle.run_messages.specs.declared.end.End.{End}
 use Rattle.run_messages.specs.declared.end.End.TheVariants.{Refused, Memory}
 use Rattle.run_messages.specs.declared.end.Refusal.{Refusal}
-use Rattle.run_messages.specs.declared.end.Refusal.TheVariants.{NotServed}
+use Rattle.run_messages.specs.declared.end.Refusal.TheVariants.{NotServed, TooLarge as Too_large}
 use Rattle.served_programs.specs.Served.{IsServed}
-use Rattle.run_checks.specs.Stops.{HasMain, IsRefused, IsRefusedByReads, by_clocks, by_initial, by_causal, IsRefusedProgram, by_types, by_choice, by_reads, by_form, IsRefusedText, IsRunnable, IsSound, IsUnreadText, end_of_acceptance, end_of_choice, end_of_clocks, end_of_text, end_of_types}
+use Rattle.expanded_size.specs.Sizes.{HasSize, kept}
+use Rattle.expanded_size.proofs.Existing.{one_size}
+use Rattle.run_checks.specs.Stops.{HasMain, HasMainSize, IsSmall, by_size, IsRefused, IsRefusedByReads, by_clocks, by_initial, by_causal, IsRefusedProgram, by_types, by_choice, by_reads, by_form, IsRefusedText, IsRunnable, IsSound, IsUnreadText, end_of_acceptance, end_of_choice, end_of_clocks, end_of_text, end_of_types}
 
 -- ---- programs
 
@@ -77,11 +79,20 @@ not_by_reads agree p r s (by_causal k vars clocks l i h is) =
     let causal : IsCausal p (clock_in clocks) = subst (IsCausal p) (agree p s.clocks clocks s.least l) s.causal in
     causal k h.cycle.0 h.cycle.1 vars h.cycle.2
 
+-- the node that is run has one size
+one_main_size : (p : Program) (n m : ℕ) → HasMainSize p n → HasMainSize p m → n ≡ m
+one_main_size p n m (k, chosen, h) (j, again, g) =
+    one_size p.nodes k n m h (subst (λ i. HasSize p.nodes i m) (same_Some j k (sym again.chosen ∙ chosen.chosen)) g)
+
+not_by_size : (p : Program) (m : ℕ) → IsSmall p → HasMainSize p m → 1000000 < m → ⊥
+not_by_size p m (n, h, small) g large = let e = one_main_size p n m h g in omega arith
+
 pub not_refused : LeastMapsAgree → (p : Program) (r : Refusal) → IsRunnable p → IsRefusedProgram p r → ⊥
 not_refused agree p r runs (by_types t h e) = no_fault p t r runs.clean h e
 not_refused agree p r runs (by_choice t clean h e) = no_choice p.nodes runs.main.0 t runs.main.1 h
 not_refused agree p r runs (by_reads clean main h) = not_by_reads agree p r runs.sound h
 not_refused agree p r runs (by_form clean main sound h e) = h runs.served
+not_refused agree p r runs (by_size m clean main sound served h large e) = not_by_size p m runs.small h large
 
 pub types_end : (p : Program) (t : TypeFault) (e : End) → IsTypeFault p t → e ≡ end_of_types t → StopsAt p e
 types_end p (typing.UnknownName at) e h is = inr (_, is, by_types (typing.UnknownName at) h refl)
@@ -144,13 +155,34 @@ form_stops p q c e same clean main kept least h (inr (is, other)) =
       by_form clean (subst HasMain same main) (subst IsSound same (is_sound q c kept least h)) (subst (λ (x : Program). IsServed x → ⊥) (kept ∙ same) other) refl,
     )
 
-pub is_runnable : (p q : Program) (c : ClockedProgram) → q ≡ p → all_faults p ≡ [] → HasMain q → c.program ≡ q → HasLeastClocks q c.clocks → IsAcceptable c → IsServed c.program → IsRunnable p
-is_runnable p q c same clean main kept least h served = record {
+-- a program that is run so far, and is too large
+pub size_stops : (p q : Program) (c : ClockedProgram) (e : End) → q ≡ p → all_faults p ≡ [] → HasMain q → c.program ≡ q → HasLeastClocks q c.clocks → IsAcceptable c → IsServed c.program
+    → (e ≡ Memory) ⊎ ((n : ℕ) × HasMainSize c.program n × (1000000 < n) × (e ≡ Refused (Too_large (kept n)))) → StopsAt p e
+size_stops p q c e same clean main is least h served (inl memory) = inl memory
+size_stops p q c e same clean main is least h served (inr (n, size, large, stops)) =
+    inr (
+      Too_large (kept n),
+      stops,
+      by_size n clean (subst HasMain same main) (subst IsSound same (is_sound q c is least h)) (subst IsServed (is ∙ same) served) (subst (λ (x : Program). HasMainSize x n) (is ∙ same) size) large refl,
+    )
+
+pub is_runnable : (p q : Program) (c : ClockedProgram) → q ≡ p → all_faults p ≡ [] → HasMain q → c.program ≡ q → HasLeastClocks q c.clocks → IsAcceptable c → IsServed c.program → IsSmall c.program → IsRunnable p
+is_runnable p q c same clean main kept least h served small = record {
   clean = clean;
   main = subst HasMain same main;
   sound = subst IsSound same (is_sound q c kept least h);
   served = subst IsServed (kept ∙ same) served;
+  small = subst IsSmall (kept ∙ same) small;
 }
+
+-- ---- the node that is run
+
+within_last : (nodes : List Node) (k : ℕ) → last_of nodes ≡ Some k → k < length nodes
+within_last [] k e = absurd (none-some k e)
+within_last (n ∷ ns) k e = let is : length ns ≡ k = same_Some (length ns) k e in omega arith
+
+pub within_chosen : (nodes : List Node) (k : ℕ) → IsChosen nodes None k → k < length nodes
+within_chosen nodes k h = within_last nodes k h.chosen
 
 -- ---- texts that aren't read
 

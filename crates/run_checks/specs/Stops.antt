@@ -1,5 +1,5 @@
 -- Why a file isn't read, and why a text isn't run.
-use Rattle.std.specs.Prelude.{◌≡◌, ℕ, List, [], Option, None, IfSome, ⊤, ◌⊎◌}
+use Rattle.std.specs.Prelude.{◌≡◌, ℕ, ◌<◌, ◌≤◌, List, [], Option, None, IfSome, ⊤, ◌⊎◌}
 use Rattle.hept_ast.specs.declared.tree.Program.{Program}
 use Rattle.ept_reader.specs.declared.reader.ReadFault.{ReadFault}
 use Rattle.ept_reader.specs.declared.reader.ReadFault.TheVariants as reading
@@ -10,7 +10,7 @@ use Rattle.run_messages.specs.declared.end.End.TheVariants.{Refused, Memory}
 use Rattle.run_messages.specs.declared.end.FileFault.{FileFault}
 use Rattle.run_messages.specs.declared.end.FileFault.TheVariants.{Failed, TooLarge, Missing}
 use Rattle.run_messages.specs.declared.end.Refusal.{Refusal}
-use Rattle.run_messages.specs.declared.end.Refusal.TheVariants.{BadByte, OpenComment, NumberTooLarge, Unexpected, TooDeep, UnknownName, Duplicate, Mismatch, ZeroDivisor, Recursive, NotDefined, FutureKept, NestedAsync, Limit, NoNode, FutureInterface, NoClock, MayBeNil, Cycle, NotServed}
+use Rattle.run_messages.specs.declared.end.Refusal.TheVariants.{BadByte, OpenComment, NumberTooLarge, Unexpected, TooDeep, UnknownName, Duplicate, Mismatch, ZeroDivisor, Recursive, NotDefined, FutureKept, NestedAsync, Limit, NoNode, FutureInterface, NoClock, MayBeNil, Cycle, NotServed, TooLarge as Too_large}
 use Rattle.type_futures.specs.declared.check.TypeFault.{TypeFault}
 use Rattle.type_futures.specs.declared.check.TypeFault.TheVariants as typing
 use Rattle.type_futures.specs.declared.choice.TopFault.{TopFault}
@@ -31,6 +31,7 @@ use Rattle.hept_ast.specs.Initial.{IsInitialised, IsMayBeNil}
 use Rattle.hept_ast.specs.Stages.{HasLeastClocks}
 use Rattle.hept_ast.specs.Texts.{Name}
 use Rattle.hept_ast.specs.declared.name.Place.{Place}
+use Rattle.expanded_size.specs.Sizes.{HasSize, kept}
 use Rattle.served_programs.specs.Served.{IsServed}
 
 -- ---- files
@@ -92,12 +93,21 @@ pub record IsSound (p : Program) : Type 0 where
   pub initialised : IsInitialised p
   pub causal : IsCausal p (clock_in clocks)
 
--- nothing is wrong with the program, and it is one that is run so far
+-- the expanded size of the node that is run
+abbrev pub HasMainSize : Program → ℕ → Type 0
+HasMainSize p n = (k : ℕ) × IsChosen p.nodes None k × HasSize p.nodes k n
+
+-- that size is at most 1,000,000
+abbrev pub IsSmall : Program → Type 0
+IsSmall p = (n : ℕ) × HasMainSize p n × (n ≤ 1000000)
+
+-- nothing is wrong with the program, it is one that is run so far, and it isn't too large
 pub record IsRunnable (p : Program) : Type 0 where
   pub clean : all_faults p ≡ []
   pub main : HasMain p
   pub sound : IsSound p
   pub served : IsServed p
+  pub small : IsSmall p
 
 -- Why a well-typed program isn't accepted: it has no clocks, may read an undefined value, or has a cycle of reads with its least clocks.
 pub data IsRefusedByReads (p : Program) : Refusal → Type 0 where
@@ -105,12 +115,13 @@ pub data IsRefusedByReads (p : Program) : Refusal → Type 0 where
   by_initial : {r : Refusal} (at : Place) (clocks : ClockMap) → HasLeastClocks p clocks → IsMayBeNil p at.0 → r ≡ MayBeNil at → IsRefusedByReads p r
   by_causal : {r : Refusal} (node : ℕ) (vars : List Name) (clocks : ClockMap) → HasLeastClocks p clocks → IsInitialised p → IsKeptCycle p (clock_in clocks) node vars → r ≡ Cycle vars → IsRefusedByReads p r
 
--- Why a program that was read isn't run: the first of its faults, no node to run, what it reads, or that it isn't one that is run so far.
+-- Why a program that was read isn't run: the first of its faults, no node to run, what it reads, that it isn't one that is run so far, or that it is too large.
 pub data IsRefusedProgram (p : Program) : Refusal → Type 0 where
   by_types : {r : Refusal} (t : TypeFault) → IsTypeFault p t → end_of_types t ≡ Refused r → IsRefusedProgram p r
   by_choice : {r : Refusal} (t : TopFault) → all_faults p ≡ [] → IsTopFault p.nodes None t → end_of_choice t ≡ Refused r → IsRefusedProgram p r
   by_reads : {r : Refusal} → all_faults p ≡ [] → HasMain p → IsRefusedByReads p r → IsRefusedProgram p r
   by_form : {r : Refusal} → all_faults p ≡ [] → HasMain p → IsSound p → (IsServed p → ⊥) → r ≡ NotServed → IsRefusedProgram p r
+  by_size : {r : Refusal} (n : ℕ) → all_faults p ≡ [] → HasMain p → IsSound p → IsServed p → HasMainSize p n → 1000000 < n → r ≡ Too_large (kept n) → IsRefusedProgram p r
 
 -- The bytes are no text of a program.
 abbrev pub IsUnreadText : List ℕ → Refusal → Type 0

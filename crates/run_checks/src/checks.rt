@@ -1,5 +1,5 @@
 //! The checks of a file's text before it is run.
-ghost use Rattle.std.specs.Prelude.{◌≡◌, ◌<◌, ◌^◌, length, ◌⊎◌, [], IfOk, IfErr, OnOk, MatchResult};
+ghost use Rattle.std.specs.Prelude.{◌≡◌, ℕ, ◌<◌, ◌^◌, length, ◌⊎◌, [], None, IfOk, IfErr, OnOk, MatchResult};
 ghost use Rattle.hept_ast.specs.declared.tree.Program.{Program as AnyProgram};
 ghost use Rattle.hept_ast.specs.Limits.{all_faults};
 ghost use Rattle.hept_ast.specs.Stages.{HasLeastClocks};
@@ -7,12 +7,15 @@ ghost use Rattle.causality.specs.Acceptance.{IsAcceptable};
 ghost use Rattle.run_messages.specs.declared.end.Refusal.{Refusal as AnyRefusal};
 ghost use Rattle.ept_reader.specs.Spelling.{IsProgramText};
 ghost use Rattle.served_programs.specs.Served.{IsServed};
-ghost use Rattle.run_checks.specs.Stops.{HasMain, IsRefused, IsRefusedByReads, IsRefusedProgram, IsRefusedText, IsRunnable, IsUnreadText, end_of_acceptance, end_of_choice, end_of_clocks, end_of_text, end_of_types};
+ghost use Rattle.expanded_size.specs.Sizes.{kept};
+ghost use Rattle.type_futures.specs.Chosen.{IsChosen};
+ghost use Rattle.run_checks.specs.Stops.{HasMainSize, IsRefused, IsRefusedByReads, IsRefusedProgram, IsRefusedText, IsRunnable, IsSmall, IsUnreadText, end_of_acceptance, end_of_choice, end_of_clocks, end_of_text, end_of_types};
 
 use causality::{AcceptFault, CausalFault, InitFault, accept};
 use clock_calculus::{ClockFault, check_clocks, clock_laws};
 use ept_reader::{ReadFault, read_program};
-use hept_ast::{Accepted, Memory, Program, Typed};
+use expanded_size::expanded_size;
+use hept_ast::{Accepted, Memory, NodeId, Program, Typed};
 use run_messages::{End, Refusal};
 use served_programs::is_served;
 use std::alloc::Global;
@@ -84,15 +87,15 @@ fn end_of_acceptance(fault: AcceptFault) -> End
     }
 }
 
-/// Whether a program has a node to run.
-fn check_main(typed: &Typed) -> Result<(), End>
+/// The node of a program that is run.
+fn check_main(typed: &Typed) -> Result<NodeId, End>
     requires { all_faults typed.now ≡ [] }
     ensures few { length typed.now.nodes < 2 ^ 32 }
-    ensures main { OnOk result (HasMain typed.now) }
+    ensures main { IfOk result (λ main. IsChosen typed.now.nodes None main.0) }
     ensures ends { IfErr result (λ e. (r : AnyRefusal) × (e ≡ End.Refused r) × IsRefusedProgram typed.now r) }
 {
     match choose(typed, None) {
-        Ok(_) => Ok(()),
+        Ok(main) => Ok(main),
         Err(fault) => Err(end_of_choice(fault)),
     }
 }
@@ -105,6 +108,23 @@ fn check_served(alloc: Global, accepted: &Accepted) -> Result<(), End>
     match is_served(alloc, accepted.program()) {
         Ok(true) => Ok(()),
         Ok(false) => Err(End::Refused(Refusal::NotServed)),
+        Err(Memory) => Err(End::Memory),
+    }
+}
+
+/// Whether the expanded size of the node that is run is at most 1,000,000.
+fn check_size(alloc: Global, accepted: &Accepted, main: NodeId) -> Result<(), End>
+    requires { IsChosen accepted.now.program.nodes None main.0 }
+    ensures small { OnOk result (IsSmall accepted.now.program) }
+    ensures ends { IfErr result (λ e. (e ≡ End.Memory) ⊎ ((n : ℕ) × HasMainSize accepted.now.program n × (1000000 < n) × (e ≡ End.Refused (Refusal.TooLarge (kept n))))) }
+{
+    match expanded_size(alloc, accepted.program(), main) {
+        Ok(kept) => {
+            if kept > 1_000_000 {
+                return Err(End::Refused(Refusal::TooLarge { kept }));
+            }
+            Ok(())
+        }
         Err(Memory) => Err(End::Memory),
     }
 }
@@ -126,7 +146,8 @@ fn check_reads(alloc: Global, typed: Typed) -> Result<Accepted, End>
     }
 }
 
-/// The program with its clocks, where nothing is wrong with it and it is one that is run so far.
+/// The program with its clocks, where nothing is wrong with it, it is one that is run so far, and it
+/// isn't too large.
 fn check_program(alloc: Global, program: Program) -> Result<Accepted, End>
     ensures same { IfOk result (λ accepted. accepted.program ≡ program) }
     ensures runs { OnOk result (IsRunnable program) }
@@ -136,13 +157,14 @@ fn check_program(alloc: Global, program: Program) -> Result<Accepted, End>
         Ok(typed) => typed,
         Err(fault) => return Err(end_of_types(fault)),
     };
-    check_main(&typed)?;
+    let main = check_main(&typed)?;
     let accepted = check_reads(alloc, typed)?;
     check_served(alloc, &accepted)?;
+    check_size(alloc, &accepted, main)?;
     Ok(accepted)
 }
 
-/// The program that a text spells, if it is one that is run so far.
+/// The program that a text spells, if it is one that is run so far and isn't too large.
 pub fn read_checked(alloc: Global, text: &[u8]) -> Result<Accepted, End>
     requires { length text.now < 2 ^ 32 }
     ensures text { IfOk result (λ a. IsProgramText text.now a.program) }

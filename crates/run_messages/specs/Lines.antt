@@ -14,7 +14,7 @@ use Rattle.run_messages.specs.declared.end.FileFault.TheVariants.{Failed as Not_
 use Rattle.run_messages.specs.declared.end.BadRow.{BadRow}
 use Rattle.run_messages.specs.declared.end.BadRow.TheVariants.{TooLong, Fault}
 use Rattle.run_messages.specs.declared.end.Refusal.{Refusal}
-use Rattle.run_messages.specs.declared.end.Refusal.TheVariants.{BadByte, OpenComment, NumberTooLarge, Unexpected, TooDeep, UnknownName, Duplicate, Mismatch, ZeroDivisor, Recursive, NotDefined, FutureKept, NestedAsync, Limit, NoNode, FutureInterface, NoClock, MayBeNil, Cycle, NotServed}
+use Rattle.run_messages.specs.declared.end.Refusal.TheVariants.{BadByte, OpenComment, NumberTooLarge, Unexpected, TooDeep, UnknownName, Duplicate, Mismatch, ZeroDivisor, Recursive, NotDefined, FutureKept, NestedAsync, Limit, NoNode, FutureInterface, NoClock, MayBeNil, Cycle, NotServed, TooLarge as Too_large}
 
 -- ---- texts
 
@@ -52,6 +52,7 @@ refusal_text (NoClock at) = codes "no clock at " ++ decimal at.0
 refusal_text (MayBeNil at) = codes "may be nil at " ++ decimal at.0
 refusal_text (Cycle vars) = codes "cycle: " ++ spaced vars
 refusal_text NotServed = codes "not served"
+refusal_text (Too_large kept) = codes "too large: " ++ decimal kept ++ codes " over 1000000"
 
 abbrev pub file_text : FileFault → List ℕ
 file_text Not_read = codes "file not read"

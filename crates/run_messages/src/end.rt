@@ -49,6 +49,8 @@ pub enum Refusal {
     Cycle { vars: Items<Name> },
     /// The program is not one that is run so far.
     NotServed,
+    /// The expanded size of the node that is run is above 1,000,000.
+    TooLarge { kept: u32 },
 }
 
 /// Why a file was not read.

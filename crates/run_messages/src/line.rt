@@ -104,7 +104,18 @@ fn write_refusal<E: Sink>(refusal: &Refusal, sink: &mut E) -> Result<(), Failed>
         Refusal::MayBeNil { at } => write_number(b"may be nil at ", at.0, sink),
         Refusal::Cycle { vars } => write_cycle(vars.as_slice(), sink),
         Refusal::NotServed => put(b"not served", sink),
+        Refusal::TooLarge { kept } => write_too_large(*kept, sink),
     }
+}
+
+/// Writes that an expanded size is above its limit.
+fn write_too_large<E: Sink>(kept: u32, sink: &mut E) -> Result<(), Failed>
+    ensures text { Writes result (E.held sink.old) (E.held sink.new) (codes "too large: " ++ decimal kept ++ codes " over 1000000") }
+    ensures cause { OnErr result (Rose (E.faults sink.old) (E.faults sink.new)) }
+    ensures count { E.faults sink.old ≤ E.faults sink.new }
+{
+    write_number(b"too large: ", kept, sink)?;
+    put(b" over 1000000", sink)
 }
 
 fn write_cycle<E: Sink>(vars: &[Name], sink: &mut E) -> Result<(), Failed>

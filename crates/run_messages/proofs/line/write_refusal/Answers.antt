@@ -58,3 +58,6 @@ returns-in-MayBeNil-clause-text g c = text_as refusal_text _ _ _ _ _ c.in-MayBeN
 
 pub returns-in-NotServed-clause-text : goal.returns-in-NotServed-clause-text
 returns-in-NotServed-clause-text g c = text_as refusal_text _ _ _ _ _ c.in-NotServed.is c.put-in-NotServed.ensures.text
+
+pub returns-in-TooLarge-clause-text : goal.returns-in-TooLarge-clause-text
+returns-in-TooLarge-clause-text g c = text_as refusal_text _ _ _ _ _ c.in-TooLarge.is c.write_too_large.ensures.text
