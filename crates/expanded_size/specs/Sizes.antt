@@ -1,8 +1,11 @@
 -- The expanded size of a node: the number of expressions in its text, and the expanded size of the callee for each call, by `async` or not.
 use Rattle.std.specs.Prelude.{◌≡◌, ℕ, ◌+◌, ◌<◌, min, List, [], ◌∷◌, length, Some, slice_get}
 use Rattle.hept_ast.specs.Texts.{Name}
+use Rattle.hept_ast.specs.Scopes.{Clock, Written}
 use Rattle.hept_ast.specs.Parts.{expressions}
 use Rattle.hept_ast.specs.Faults.{IsTyped, calls_of, node_named}
+use Rattle.hept_ast.specs.Settings.{Marks, Replies, of_program}
+use Rattle.hept_ast.specs.ExpandedSize.{ExpandedSize}
 use Rattle.hept_ast.specs.declared.tree.Node.{Node}
 use Rattle.hept_ast.specs.declared.tree.Program.{Program}
 
@@ -33,3 +36,8 @@ OneSize = (nodes : List Node) (k n m : ℕ) → HasSize nodes k n → HasSize no
 -- in a program without faults of types each node has a size
 abbrev pub EachHasSize : Type 0
 EachHasSize = (p : Program) (k : ℕ) → IsTyped p → k < length p.nodes → (n : ℕ) × HasSize p.nodes k n
+
+-- it is the size of the node's expanded text, over whose pieces the stream meaning goes
+abbrev pub SizesAgree : Type 0
+SizesAgree = (p : Program) (clock : ℕ → Name → Clock) (marked : Marks) (replies : Replies) (k n : ℕ) (node : Node) →
+    slice_get p.nodes k ≡ Some node → SizeIs p.nodes node n → ExpandedSize (of_program p clock marked replies) (Written k node) n
