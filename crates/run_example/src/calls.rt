@@ -1,5 +1,6 @@
 //! Nodes that call others.
-use crate::expected::writes;
+use crate::expected::{expect_outcome, writes};
+use crate::{NONE, outcome_of};
 use std::alloc::{AllocError, Global};
 use std::test::Fail;
 
@@ -69,5 +70,8 @@ fn chain_of_nodes(rt: HostRuntime) -> Result<(), Fail> {
         )?;
         text.push_str(node.as_str())?;
     }
-    writes(&rt, alloc, text.as_bytes(), b"7\n8\n", b"1023\n1030\n")
+    let trace = b"7\n8\n";
+    let outcome = outcome_of(alloc, &["a.ept"], Some(text.as_bytes()), trace, 9, NONE)?;
+    expect_outcome(&rt, outcome, 0, b"1023\n1030\n", b"");
+    Ok(())
 }
