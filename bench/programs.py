@@ -24,17 +24,17 @@ def thirty():
     return equations
 
 
-def fifty():
-    """A filter of fifty stages: each comes a quarter nearer to the one before it at each instant."""
+def stages(count):
+    """A filter of so many stages: each comes a quarter nearer to the one before it at each instant."""
     equations, last = [], "x"
-    for number in range(1, 51):
-        name = "y" if number == 50 else f"f{number}"
+    for number in range(1, count + 1):
+        name = "y" if number == count else f"f{number}"
         equations.append((name, ("fby", 0, ("+", name, ("/", ("-", last, name), 4)))))
         last = name
     return equations
 
 
-PROGRAMS = {"delayed_sum": DELAYED_SUM, "thirty": thirty(), "fifty": fifty()}
+PROGRAMS = {"delayed_sum": DELAYED_SUM, "thirty": thirty(), "fifty": stages(50), "hundred_calls": stages(100)}
 
 
 # ---- Heptagon
@@ -55,6 +55,21 @@ def heptagon(equations):
     variables = f"var {','.join(names)}:int;\n" if names else ""
     lines = ";\n  ".join(f"{name} = {heptagon_term(term)}" for name, term in equations)
     return f"node main(x:int) returns (y:int)\n{variables}let\n  {lines}\ntel\n"
+
+
+def called_stages(count):
+    """The same filter, whose stages are calls of one node."""
+    names = [f"f{number}" for number in range(1, count)] + ["y"]
+    lines = ";\n  ".join(f"{name} = stage({last})" for name, last in zip(names, ["x"] + names))
+    return (
+        "node stage(x:int) returns (y:int)\nlet\n  y = 0 fby (y + ((x - y) / 4))\ntel\n"
+        + f"node main(x:int) returns (y:int)\nvar {','.join(names[:-1])}:int;\nlet\n  {lines}\ntel\n"
+    )
+
+
+def text(program):
+    """The program in Heptagon."""
+    return called_stages(100) if program == "hundred_calls" else heptagon(PROGRAMS[program])
 
 
 # ---- C and awk
